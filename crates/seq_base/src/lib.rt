@@ -18,3 +18,6 @@ pub use source::{Failed, Source};
 pub use standard::{StdSink, StdSource};
 pub use thrown::{Thrown, word_of};
 pub use whole::{ReadStop, read_whole, write_whole};
+
+#[cfg(test)]
+mod tests;

@@ -1,0 +1,4 @@
+pub mod AnswerLemmas
+pub mod ElementLemmas
+pub mod NumberLemmas
+pub mod ShapeLemmas
