@@ -1,0 +1,14 @@
+//! The values of a script, its words, and the terms and turns of the rules that work on them.
+#![tactic(auto)]
+
+mod cell_id;
+mod term;
+mod text;
+mod value;
+mod words;
+
+pub use cell_id::CellId;
+pub use term::{Answer, CallStop, Term, Turn};
+pub use text::Text;
+pub use value::{FnValue, Held, Node, Value};
+pub use words::{Builtin, FolderKind, Kind, Op, Target, XfKind};
