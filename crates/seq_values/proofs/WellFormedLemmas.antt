@@ -1,5 +1,5 @@
 -- What a well-formed value holds is well formed, and what is made of well-formed values is.
-use Rattle.std.proofs.Common.{◌≡◌, refl, sym, ap, ◌∙◌, subst, ℕ, zero, suc, ◌+◌, ◌≤◌, ◌<◌, max, List, [], ◌∷◌, ◌++◌, map, length, take, drop, Bool, true, false, ◌&&◌, nat_lt, nat_le, int_lt, int_le, ℤ, IfSome, Some, None, slice_get, Bor, arith}
+use Rattle.std.proofs.Common.{◌≡◌, refl, sym, ap, ◌∙◌, subst, ℕ, zero, suc, ◌+◌, ◌≤◌, ◌<◌, max, List, [], ◌∷◌, ◌++◌, map, length, take, drop, Bool, true, false, ◌&&◌, nat_lt, nat_le, IfSome, Some, None, slice_get, Bor, arith}
 use Rattle.std.specs.declared.option.Option.{Option}
 use Rattle.std.specs.Option.{option_copied}
 use Rattle.std.proofs.lemmas.Bool.{leb-true, le-leb, ltb-true, lt-ltb}
@@ -9,9 +9,10 @@ use Rattle.std.proofs.Math.Nat.{le-max_left, le-max_right, max-le}
 use Rattle.seq_values.specs.declared.value.Value.TheVariants as V
 use Rattle.seq_values.specs.declared.value.Node.TheVariants as N
 use Rattle.seq_values.specs.declared.value.Node.TheFolds.{fold-roll-Value, fold-roll-Node, fold_out-FnValue}
-use Rattle.seq_values.specs.declared.words.Target.{Target}
-use Rattle.seq_values.specs.Layers.{Value, Node, FnValue, Value-F, Node-F, FnValue-F}
-use Rattle.seq_values.specs.Depth.{greatest, node_depth, value_depth, function_depth, depth, depth_of_node, depth_of_function, depth_of_all}
+use Rattle.seq_values.specs.Layers.{Value, Node, FnValue, Value-F, Node-F}
+use Rattle.seq_values.specs.Depth.{node_depth, value_depth, function_depth, depth, depth_of_node, depth_of_function, depth_of_all}
+use Rattle.seq_values.specs.WellFormedTerms.{takes, is_well_formed_term}
+use Rattle.seq_values.specs.declared.term.Term.{Term}
 use Rattle.seq_values.specs.WellFormed.{Seen, sights, all_stand, ends_cons, ends_chunk, not_empty, node_seen, value_seen, function_seen, seen, seen_node, seen_function, sight_of, binds, is_well_formed, is_well_formed_node, is_well_formed_function, are_well_formed}
 
 pub and_parts : (a b : Bool) → (a && b) ≡ true → (a ≡ true) × (b ≡ true)
@@ -205,11 +206,11 @@ module _ (ends : Bool) (values : List Value) (rest : Value) where
 
   held : (not_empty (map seen values) && (all_stand (map seen values) && ((seen rest).stands && ends))) ≡ true → max (depth_of_all values) (depth rest) + 1 ≤ 256 → Holds values rest × (ends ≡ true)
   held h le =
+      let values_within : depth_of_all values ≤ 256 = omega (arith, le, le-max_left (depth_of_all values) (depth rest)) in
+      let rest_within : depth rest ≤ 256 = omega (arith, le, le-max_right (depth_of_all values) (depth rest)) in
       let outer = and_parts _ _ h in
       let inner = and_parts _ _ outer.1 in
       let last = and_parts ((seen rest).stands) ends inner.1 in
-      let values_within : depth_of_all values ≤ 256 = omega (arith, le, le-max_left (depth_of_all values) (depth rest)) in
-      let rest_within : depth rest ≤ 256 = omega (arith, le, le-max_right (depth_of_all values) (depth rest)) in
       let some : 0 < length values = ltb-true 0 _ (sym (ap (nat_lt 0) (length_seen values)) ∙ outer.0) in
       (record { some = some; each = all_well_formed values inner.0 values_within; last = both _ _ last.0 (le-leb _ _ rest_within) }, last.1)
 
@@ -242,3 +243,14 @@ vec_seq_holds items at h =
     let parts = taken _ _ _ _ (seen_vec_seq items at) (depth_vec_seq items at) h in
     let stands = and_parts _ _ parts.0 in
     (ltb-true at _ (sym (ap (nat_lt at) (length_seen items)) ∙ stands.0), all_well_formed items stands.1 (omega (arith, parts.1)))
+
+-- ## Terms
+
+pub term_args : (t : Term) → is_well_formed_term t ≡ true → are_well_formed t.args ≡ true
+term_args t h = (and_parts (are_well_formed t.args) (takes t.op (map sight_of t.args)) h).0
+
+pub term_takes : (t : Term) → is_well_formed_term t ≡ true → takes t.op (map sight_of t.args) ≡ true
+term_takes t h = (and_parts (are_well_formed t.args) (takes t.op (map sight_of t.args)) h).1
+
+pub term_well : (t : Term) → are_well_formed t.args ≡ true → takes t.op (map sight_of t.args) ≡ true → is_well_formed_term t ≡ true
+term_well t h k = both _ _ h k

@@ -1,9 +1,8 @@
 -- Which values are well formed, as tests that compute.
-use Rattle.std.specs.Prelude.{ℕ, ℤ, pos, Bool, true, false, ◌&&◌, ◌||◌, not, nat_eq, nat_lt, nat_le, int_lt, int_le, length, List, [], ◌∷◌, map}
-use Rattle.std.specs.Prelude.{Option, Some, None}
-use Rattle.seq_values.specs.Depth.{depth, depth_of_node, depth_of_function, depth_of_all}
+use Rattle.std.specs.Prelude.{pos, Bool, true, false, ◌&&◌, nat_lt, nat_le, int_lt, int_le, length, List, [], ◌∷◌, map}
+use Rattle.seq_values.specs.Depth.{depth, depth_of_node, depth_of_function}
 use Rattle.seq_values.specs.Layers.{Value, Node, FnValue, ValueLayer, NodeLayer, FunctionLayer, Value-F, Node-F, fold_value, fold_node, fold_function}
-use Rattle.seq_values.specs.Sight.{Kept, left, dropping, group_of, Sight, a_nil, a_bool, an_int, a_vector, a_cell, an_empty, a_cons, a_chunked, a_function, another, kept_by_function}
+use Rattle.seq_values.specs.Sight.{Sight, a_nil, a_bool, an_int, a_vector, a_cell, an_empty, a_cons, a_chunked, a_function, another, kept_by_function}
 use Rattle.seq_values.specs.declared.words.Target.{Target}
 use Rattle.seq_values.specs.declared.words.Target.TheVariants.{Builtin, User, Partial, Comp, Complement, Constantly, Completing, Monoid, Xf, Folder}
 use Rattle.seq_values.specs.declared.words.XfKind.{XfKind}
@@ -70,6 +69,10 @@ pub record Seen : Type 0 where
   pub sight : Sight
   pub stands : Bool
 
+-- a value of this kind that stands
+abbrev pub good : Sight → Seen
+good kind = record { sight = kind; stands = true }
+
 abbrev pub sights : List Seen → List Sight
 sights seen = map (λ s. s.sight) seen
 
@@ -95,23 +98,23 @@ abbrev pub not_empty : List Seen → Bool
 not_empty seen = nat_lt 0 (length seen)
 
 abbrev pub node_seen : NodeLayer Seen → Seen
-node_seen Node-F.Empty = record { sight = an_empty; stands = true }
+node_seen Node-F.Empty = good an_empty
 node_seen (Node-F.Cons heads rest) = record { sight = a_cons; stands = not_empty heads && (all_stand heads && (rest.stands && ends_cons rest.sight)) }
 node_seen (Node-F.Chunk items rest) = record { sight = a_chunked; stands = not_empty items && (all_stand items && (rest.stands && ends_chunk rest.sight)) }
 node_seen (Node-F.Range from at end) = record { sight = a_chunked; stands = int_le from at && int_lt at end }
 node_seen (Node-F.VecSeq items at) = record { sight = a_chunked; stands = nat_lt at (length items) && all_stand items }
 
 abbrev pub value_seen : ValueLayer Seen → Seen
-value_seen Value-F.Nil = record { sight = a_nil; stands = true }
-value_seen (Value-F.Bool truth) = record { sight = a_bool; stands = true }
-value_seen (Value-F.Int number) = record { sight = an_int number; stands = true }
-value_seen (Value-F.Keyword name) = record { sight = another; stands = true }
-value_seen (Value-F.Text bytes) = record { sight = another; stands = true }
+value_seen Value-F.Nil = good a_nil
+value_seen (Value-F.Bool truth) = good a_bool
+value_seen (Value-F.Int number) = good (an_int number)
+value_seen (Value-F.Keyword name) = good another
+value_seen (Value-F.Text bytes) = good another
 value_seen (Value-F.Vector items) = record { sight = a_vector (length items); stands = all_stand items }
 value_seen (Value-F.Function function) = function
 value_seen (Value-F.Node node) = node
 value_seen (Value-F.Reduced held) = record { sight = another; stands = held.stands }
-value_seen (Value-F.Cell id) = record { sight = a_cell; stands = true }
+value_seen (Value-F.Cell id) = good a_cell
 
 abbrev pub function_seen : FunctionLayer Seen → Seen
 function_seen f = record { sight = a_function f.target (kept_by_function f.target (sights f.bound)); stands = all_stand f.bound && binds f.target (sights f.bound) }

@@ -1,7 +1,6 @@
 -- Which terms, turns and answers are well formed, as tests that compute.
-use Rattle.std.specs.Prelude.{ℕ, ℤ, pos, Bool, true, false, ◌&&◌, nat_lt, nat_le, int_lt, length, List, [], ◌∷◌, map}
-use Rattle.std.specs.Prelude.{Option, Some, None}
-use Rattle.seq_values.specs.Layers.{Value}
+use Rattle.std.specs.Prelude.{pos, Bool, true, false, ◌&&◌, nat_le, int_lt, length, List, [], ◌∷◌, map}
+use Rattle.std.specs.Prelude.{Some}
 use Rattle.seq_values.specs.Sight.{Kept, left, dropping, group_of, Sight, a_nil, a_bool, an_int, a_vector, a_cell, an_empty, a_cons, a_chunked, a_function}
 use Rattle.seq_values.specs.WellFormed.{is_one, is_two, sight_of, is_well_formed, are_well_formed}
 use Rattle.seq_values.specs.declared.words.Target.TheVariants.{Xf}

@@ -19,3 +19,6 @@ pub use term::{Answer, CallStop, Term, Turn};
 pub use text::Text;
 pub use value::{FnValue, Held, Node, Value};
 pub use words::{Builtin, FolderKind, Kind, Op, Target, XfKind};
+
+#[cfg(test)]
+mod tests;

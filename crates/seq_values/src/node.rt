@@ -1,4 +1,4 @@
-ghost use Rattle.std.specs.Prelude.{◌≡◌, ◌<◌, ◌≤◌, length, if◌then◌else◌, int_lt, IsTrue};
+ghost use Rattle.std.specs.Prelude.{◌≡◌, ◌<◌, ◌≤◌, [], length, if◌then◌else◌, int_lt, IsTrue, IfSome};
 ghost use Rattle.std.specs.Option.{SomeIff};
 ghost use Rattle.seq_values.specs.Depth.{depth_of_all};
 ghost use Rattle.seq_values.specs.WellFormed.{is_well_formed_node, is_well_formed_function, are_well_formed};
@@ -8,7 +8,7 @@ use crate::words::{Builtin, Target};
 use seq_vector::PVec;
 
 impl Node {
-    /// The integers from `from` up to `end`, which is left out: `()` where there is none.
+    /// The integers from `from` up to `end`, which is left out, and `()` where there is none.
     pub fn range(from: i64, end: i64) -> Node
         ensures same { result ≡ (if int_lt from end then Node.Range from from end else Node.Empty) }
         ensures well { IsTrue (is_well_formed_node result) }
@@ -24,11 +24,13 @@ impl Node {
         }
     }
 
-    /// The items of a vector, from the first on: `None` where there is none.
+    #[tactic(auto, using(crate::proofs::WellFormedLemmas::vec_seq_well))]
+    /// The items of a vector from the first on, and `None` where there is none.
     pub fn over(items: PVec<Value>) -> Option<Node>
         requires well { IsTrue (are_well_formed items) }
         requires depth { depth_of_all items ≤ 255 }
         ensures same { SomeIff result (0 < length items) (Node.VecSeq items 0) }
+        ensures well { IfSome result (λ node. IsTrue (is_well_formed_node node)) }
     {
         if items.len() == 0 {
             return None;
@@ -38,8 +40,10 @@ impl Node {
 }
 
 impl FnValue {
-    /// A word as a function.
+    /// A word as a function, with nothing bound.
     pub fn word(word: Builtin) -> FnValue
+        ensures target { result.target ≡ Target.Builtin word }
+        ensures bound { result.bound ≡ [] }
         ensures well { IsTrue (is_well_formed_function result) }
     {
         FnValue {
