@@ -12,7 +12,7 @@ mod value;
 mod words;
 
 pub use cell_id::CellId;
-pub use depth::depth_of;
+pub use depth::{depth_of, depth_of_all};
 pub use line::Line;
 pub use print::print_atom;
 pub use term::{Answer, CallStop, Term, Turn};
