@@ -1,0 +1,2 @@
+pub mod pvec
+pub mod shared
