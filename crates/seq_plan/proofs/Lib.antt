@@ -1,0 +1,3 @@
+pub mod AlikeNodes
+pub mod AlikePlans
+pub mod Thens

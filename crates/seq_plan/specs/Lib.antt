@@ -1,0 +1,5 @@
+pub mod Plan
+pub mod Nodes
+pub mod Alike
+pub mod Turns
+pub mod Laws
