@@ -1,0 +1,6 @@
+pub mod OneMores
+pub mod Once
+pub mod AlikeWalk
+pub mod Twinned
+pub mod Reaching
+pub mod Trails

@@ -1,0 +1,11 @@
+pub mod Evaluates
+pub mod Walk
+pub mod Names
+pub mod Gives
+pub mod Counts
+pub mod Alike
+pub mod Twins
+pub mod More
+pub mod Reached
+pub mod Trail
+pub mod Laws
