@@ -4,3 +4,9 @@ pub mod AlikeWalk
 pub mod Twinned
 pub mod Reaching
 pub mod Trails
+pub mod AlikePrints
+pub mod SmallAlike
+pub mod Worked
+pub mod WorkedSum
+pub mod WorkedTwice
+pub mod WorkedEndless

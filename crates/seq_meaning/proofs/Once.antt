@@ -273,3 +273,20 @@ module _ (rules : Rules Name) (program : Program) (limit : ℕ) where
 
   pub none_after : (e : Name) (w : Work) (a more : List (Outcome Name)) (x : Thrown) (n : Name) (ms : List (Made Name)) → ¬ (run rules program limit e w (more ++ threw x ∷ a) ≡ needs n ms)
   none_after e w a more x n ms p = past-needs (rw p at (run-stops e w a more x))
+
+  -- an evaluation that ends has no true answers but those with which it ends
+  pub within : {e : Name} {w : Work} {a b : List (Outcome Name)} {o : Outcome Name} {ms : List (Made Name)} → Of rules program limit e w → True rules program limit e a → run rules program limit e w a ≡ ends o ms → True rules program limit e b → Longer a b
+  within {e = e} {a = a} {b = b} of t r u = go (compared t u)
+    where
+      stuck : (x : Outcome Name) → ¬ (Answer e a x)
+      stuck x (answer {w = v} of' r' g) = let p = one_of of of' in absurd cc
+
+      shorter : (c : List (Outcome Name)) → EndsIn c → b ≡ c ++ a → Longer a b
+      shorter c (is_empty p) q = ([], rw p at (sym q))
+      shorter c (has_last d x p) q =
+          let s : b ≡ d ++ x ∷ a = rw (p, append_assoc) at q in
+          absurd (stuck x (at_answer d (subst (λ l. True rules program limit e l) s u)))
+
+      go : Longer a b ⊎ Longer b a → Longer a b
+      go (inl l) = l
+      go (inr l) = shorter l.0 (ends_in l.0) l.1

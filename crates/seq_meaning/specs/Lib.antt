@@ -8,4 +8,7 @@ pub mod Twins
 pub mod More
 pub mod Reached
 pub mod Trail
+pub mod Prints
+pub mod SmallTable
+pub mod Worked
 pub mod Laws

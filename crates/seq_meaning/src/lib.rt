@@ -2,6 +2,8 @@
 #![tactic(auto)]
 
 ghost use Rattle.seq_meaning.specs.Laws.{OneWork, OnePart, OneOutcome, OneAnswer, OneOrder, RunDefined, RunGoesOn, NoneAfterThrow, MakesGrow, RunsRename, TwinsRunAlike, RetryThrows, TrailRuns, TrailNeeds, TrailGives, TrailThrows};
+ghost use Rattle.seq_meaning.specs.SmallTable.{SmallRenames};
+ghost use Rattle.seq_meaning.specs.Worked.{SumOfThree, OneMoreThanOne, AskedTwice, WithoutEnd};
 
 /// Each evaluation has at most one work.
 pub fn law_one_work()
@@ -81,4 +83,29 @@ pub fn law_trail_gives()
 /// Where the walk comes to an error, the run ends by it.
 pub fn law_trail_throws()
     ensures { TrailThrows }
+{}
+
+/// A small table of rules, for worked scripts, renames.
+pub fn law_small_renames()
+    ensures { SmallRenames }
+{}
+
+/// `(prn (reduce + (take 3 (map inc (range 3)))))` writes 6 with fourteen own steps, and throws with thirteen.
+pub fn worked_sum_of_three()
+    ensures { SumOfThree }
+{}
+
+/// `(prn (inc 1))` writes 2 with two own steps, and throws with one.
+pub fn worked_one_more_than_one()
+    ensures { OneMoreThanOne }
+{}
+
+/// A lazy part that throws and is asked by two forms: each fails by an attempt of its own.
+pub fn worked_asked_twice()
+    ensures { AskedTwice }
+{}
+
+/// `(prn (iterate inc 0))` throws, and realises no more than the step limit allows.
+pub fn worked_without_end()
+    ensures { WithoutEnd }
 {}
