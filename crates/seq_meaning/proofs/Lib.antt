@@ -6,7 +6,9 @@ pub mod Reaching
 pub mod Trails
 pub mod AlikePrints
 pub mod SmallAlike
+pub mod NameTests
 pub mod Worked
 pub mod WorkedSum
 pub mod WorkedTwice
 pub mod WorkedEndless
+pub mod Closing

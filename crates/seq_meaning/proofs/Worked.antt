@@ -1,13 +1,15 @@
 -- The worked scripts, by computation.
-use Rattle.std.proofs.Common.{ℕ, zero, suc, ◌≤◌, List, [], codes, refl, arith}
+use Rattle.std.proofs.Common.{◌≡◌, ℕ, zero, suc, ◌≤◌, List, [], ◌∷◌, Some, slice_get, codes, refl, arith}
 use Rattle.std.specs.Fmt.{digits}
 use Rattle.seq_values.specs.declared.words.Builtin.TheVariants as B
+use Rattle.seq_values.specs.declared.words.Kind.TheVariants.{Lazy, Future}
 use Rattle.seq_values.specs.declared.words.Op.{Op}
 use Rattle.seq_values.specs.declared.words.Target.TheVariants as T
-use Rattle.seq_values.specs.Model.{Value, function, no_values}
-use Rattle.seq_meaning.specs.Walk.{walk}
-use Rattle.seq_meaning.specs.Names.{Name, form}
+use Rattle.seq_values.specs.Model.{Value, function, no_values, Term}
+use Rattle.seq_meaning.specs.Walk.{Made, made, walk}
+use Rattle.seq_meaning.specs.Names.{Name, form, part, retry}
 use Rattle.seq_meaning.specs.Gives.{Work, work, of_form, of_term, run, Of, of_top, no_answer, gives, none_before}
+use Rattle.seq_meaning.specs.Counts.{IsIn, there}
 use Rattle.seq_meaning.specs.SmallTable.{small}
 use Rattle.seq_meaning.specs.Worked.{forms, Prints, inc_form, one_more_than_one, OneMoreThanOne}
 
@@ -28,6 +30,25 @@ part_work op args = work [] (of_term (record { op = op; args = args }))
 
 abbrev pub inc_word : Value Name
 inc_word = function (T.Builtin B.Inc) no_values
+
+-- a part that is made lazily
+abbrev pub lazily : Op → List (Value Name) → Made Name
+lazily op args = made Lazy (record { op = op; args = args })
+
+-- where no make is a future
+pub one_lazy : (op : Op) (args : List (Value Name)) (j : ℕ) (t : Term Name) → ¬ (slice_get (lazily op args ∷ []) j ≡ Some (made Future t))
+one_lazy op args zero t p = absurd cc
+one_lazy op args (suc j) t p = absurd cc
+
+pub none_made : (j : ℕ) (m : Made Name) → ¬ (slice_get [] j ≡ Some m)
+none_made j m p = absurd cc
+
+-- a part in a list that begins with a form stands behind it
+pub behind_form : {e : Name} {j k : ℕ} {l : List Name} → IsIn (part e j) (form k ∷ l) → IsIn (part e j) l
+behind_form (there i) = i
+
+pub retry_behind : {e : Name} {k : ℕ} {l : List Name} → IsIn (retry e) (form k ∷ l) → IsIn (retry e) l
+retry_behind (there i) = i
 
 one_more_of : (limit : ℕ) → Of small (forms one_more_than_one) limit (form 1) (work [] (of_form inc_form))
 one_more_of limit = of_top none_before refl

@@ -1,17 +1,19 @@
 -- A sequence without end that is printed up to the step limit, by computation.
-use Rattle.std.proofs.Common.{◌≡◌, ℕ, zero, suc, pos, List, [], ◌∷◌, ◌++◌, ◌⊎◌, inl, inr, refl, subst, ap, ◌∙◌, arith, Some, slice_get}
+use Rattle.std.proofs.Common.{◌≡◌, ℕ, zero, suc, ◌<◌, pos, List, [], ◌∷◌, refl, arith, Some, slice_get}
+use Rattle.seq_base.specs.declared.thrown.Thrown.{Thrown}
 use Rattle.seq_base.specs.declared.thrown.Thrown.TheVariants.{Steps}
-use Rattle.seq_values.specs.declared.words.Kind.TheVariants.{Lazy, Future}
 use Rattle.seq_values.specs.declared.words.Op.TheVariants as O
-use Rattle.seq_values.specs.Model.{Value, int, cell, cons, no_values, ◌&◌, Term, Outcome, gave, threw}
-use Rattle.seq_meaning.specs.Walk.{Made, made, needs, ends, makes_of, Run, walk}
-use Rattle.seq_meaning.specs.Names.{Name, form, part}
+use Rattle.seq_values.specs.Model.{Value, int, cell, cons, no_values, ◌&◌, Outcome, gave, threw}
+use Rattle.seq_meaning.specs.Walk.{Made, needs, ends, walk}
+use Rattle.seq_meaning.specs.Names.{Name, form, part, retry}
 use Rattle.seq_meaning.specs.Gives.{Work, work, of_form, run, Of, of_top, of_part, part_of, True, no_answer, one_more, Gives, gives, none_before}
-use Rattle.seq_meaning.specs.Counts.{FailsLazily, fails_lazily, Demand, demands_form, demands_need, demands_retry, demands_future, Realised, realised}
+use Rattle.seq_meaning.specs.Counts.{FailsLazily, fails_lazily, Demand, demands_form, demands_need, MadeBy, made_by, Realised, realised, Failed, failed_part, failed_retry, IsIn, here, there, has_size}
 use Rattle.seq_meaning.specs.SmallTable.{small}
-use Rattle.seq_meaning.specs.Worked.{forms, Throws, iterate_form, without_end, WithoutEnd}
-use Rattle.seq_meaning.proofs.Once.{one_of, one_gives, within}
-use Rattle.seq_meaning.proofs.Worked.{past, part_work, inc_word}
+use Rattle.seq_meaning.specs.Worked.{forms, Throws, Totals, iterate_form, without_end, WithoutEnd}
+use Rattle.seq_meaning.proofs.Once.{one_gives}
+use Rattle.seq_meaning.proofs.Closing.{leads_on, none_leads, one_leads, Followed, demanded_among, made_among}
+use Rattle.seq_meaning.proofs.NameTests.{distinct}
+use Rattle.seq_meaning.proofs.Worked.{past, part_work, inc_word, lazily, one_lazy, behind_form}
 
 abbrev first_part : Name
 first_part = part (form 1) 1
@@ -54,10 +56,6 @@ module _ (n : ℕ) where
   no_error : FailsLazily small (forms without_end) limit 1 first_part → ⊥
   no_error (fails_lazily p g) = let s = one_gives small (forms without_end) limit g gives_first in absurd cc
 
-  first_realised : Realised small (forms without_end) limit 1 first_part
-  unfolding run walk
-  first_realised = realised (demands_need (demands_form (omega arith)) of_top_form (no_answer of_top_form) refl no_error) gives_first
-
   of_second : OfHere second_part (next_work 1)
   unfolding run walk
   of_second = of_part (part_of of_first (no_answer of_first) refl)
@@ -69,10 +67,6 @@ module _ (n : ℕ) where
   no_second_error : FailsLazily small (forms without_end) limit 1 second_part → ⊥
   no_second_error (fails_lazily p g) = let s = one_gives small (forms without_end) limit g gives_second in absurd cc
 
-second_realised : Realised small (forms without_end) 6 1 second_part
-unfolding run walk
-second_realised = realised (demands_need (demands_form (omega arith)) (of_top_form 2) (true_first 2) refl (no_second_error 2)) (gives_second 2)
-
 six_steps : Throws without_end 6 (form 1) Steps
 unfolding run walk
 six_steps = gives (of_top_form 2) (one_more (of_top_form 2) (true_first 2) refl (gives_second 2)) refl
@@ -81,108 +75,227 @@ five_steps : Throws without_end 5 (form 1) Steps
 unfolding run walk
 five_steps = gives (of_top_form 1) (true_first 1) refl
 
--- With five steps, nothing else is demanded.
-abbrev Of5 : Name → Work → Type 0
-Of5 e w = Of small (forms without_end) 5 e w
+abbrev top_makes : List (Made Name)
+top_makes = lazily O.Next (inc_word ∷ int (pos 0) ∷ []) ∷ []
 
-abbrev True5 : Name → List (Outcome Name) → Type 0
-True5 e a = True small (forms without_end) 5 e a
+abbrev answers_1 : List (Outcome Name)
+answers_1 = gave (before 1 second_part) ∷ []
 
-abbrev run5 : Name → Work → List (Outcome Name) → Run Name
-run5 e w a = run small (forms without_end) 5 e w a
+abbrev answers_2 : List (Outcome Name)
+answers_2 = gave (before 2 (part second_part 1)) ∷ answers_1
 
-abbrev answers_5 : List (Outcome Name)
-answers_5 = gave (before 1 second_part) ∷ []
+only_form : {l : List Name} (i : ℕ) → i < 1 → IsIn (form (suc i)) (form 1 ∷ l)
+only_form zero h = here
+only_form (suc i) h = absurd (omega arith)
 
-asks_first : run5 (form 1) top_work [] ≡ needs first_part (made Lazy (record { op = O.Next; args = inc_word ∷ int (pos 0) ∷ [] }) ∷ [])
+no_retry_1 : {e : Name} → ¬ (IsIn (retry e) (form 1 ∷ first_part ∷ []))
+no_retry_1 (there (there i)) = elim i [ ]
+
+no_retry_2 : {e : Name} → ¬ (IsIn (retry e) (form 1 ∷ first_part ∷ second_part ∷ []))
+no_retry_2 (there (there (there i))) = elim i [ ]
+
+-- what the first part does, whatever else is demanded
+module _ (n : ℕ) (among : List Name) where
+  end_first : run small (forms without_end) (limit n) first_part (next_work 0) [] ≡ ends (gave (before 1 second_part)) (lazily O.Next (inc_word ∷ int (pos 1) ∷ []) ∷ [])
+  unfolding run walk
+  end_first = refl
+
+  abbrev followed_first : Followed small (forms without_end) (limit n) 1 among first_part
+  followed_first = record {
+    w = next_work 0;
+    a = [];
+    o = gave (before 1 second_part);
+    ms = lazily O.Next (inc_word ∷ int (pos 1) ∷ []) ∷ [];
+    of = of_first n;
+    answers = no_answer (of_first n);
+    end = end_first;
+    asks = none_leads;
+    futures = λ j t p. absurd (one_lazy _ _ j t p);
+  }
+
+  end_second : run small (forms without_end) (limit n) second_part (next_work 1) [] ≡ ends (gave (before 2 (part second_part 1))) (lazily O.Next (inc_word ∷ int (pos 2) ∷ []) ∷ [])
+  unfolding run walk
+  end_second = refl
+
+  abbrev followed_second : Followed small (forms without_end) (limit n) 1 among second_part
+  followed_second = record {
+    w = next_work 1;
+    a = [];
+    o = gave (before 2 (part second_part 1));
+    ms = lazily O.Next (inc_word ∷ int (pos 2) ∷ []) ∷ [];
+    of = of_second n;
+    answers = no_answer (of_second n);
+    end = end_second;
+    asks = none_leads;
+    futures = λ j t p. absurd (one_lazy _ _ j t p);
+  }
+
+  -- a part that gives a value didn't fail
+  not_failed : {c : Name} {v : Value Name} {x : Thrown} → Gives small (forms without_end) (limit n) c (gave v) → ¬ (Gives small (forms without_end) (limit n) c (threw x))
+  not_failed g h = let s = one_gives small (forms without_end) (limit n) g h in absurd cc
+
+-- With five steps:
+abbrev among_5 : List Name
+among_5 = form 1 ∷ first_part ∷ []
+
+needs_5 : run small (forms without_end) 5 (form 1) top_work [] ≡ needs first_part top_makes
 unfolding run walk
-asks_first = refl
+needs_5 = refl
 
-ends_top : run5 (form 1) top_work answers_5 ≡ ends (threw Steps) (made Lazy (record { op = O.Next; args = inc_word ∷ int (pos 0) ∷ [] }) ∷ [])
+end_5 : run small (forms without_end) 5 (form 1) top_work answers_1 ≡ ends (threw Steps) top_makes
 unfolding run walk
-ends_top = refl
+end_5 = refl
 
-ends_first : run5 first_part (next_work 0) [] ≡ ends (gave (before 1 second_part)) (made Lazy (record { op = O.Next; args = inc_word ∷ int (pos 1) ∷ [] }) ∷ [])
+abbrev followed_5 : (e : Name) → IsIn e among_5 → Followed small (forms without_end) 5 1 among_5 e
+followed_5 _ here = record {
+  w = top_work;
+  a = answers_1;
+  o = threw Steps;
+  ms = top_makes;
+  of = of_top_form 1;
+  answers = one_more (of_top_form 1) (no_answer (of_top_form 1)) needs_5 (gives_first 1);
+  end = end_5;
+  asks = one_leads (leads_on (no_error 1) (there here)) none_leads;
+  futures = λ j t p. absurd (one_lazy _ _ j t p);
+}
+followed_5 _ (there here) = followed_first 1 among_5
+followed_5 _ (there (there i)) = elim i [ ]
+
+these_5 : {x : Name} → Demand small (forms without_end) 5 1 x → IsIn x among_5
+these_5 = demanded_among small (forms without_end) 5 1 among_5 only_form followed_5
+
+abbrev parts_5 : List Name
+parts_5 = first_part ∷ second_part ∷ []
+
+made_5 : (e : Name) (i : IsIn e among_5) (j : ℕ) (m : Made Name) → slice_get (followed_5 e i).ms j ≡ Some m → IsIn (part e (suc j)) parts_5
+made_5 _ here zero m p = here
+made_5 _ here (suc j) m p = absurd cc
+made_5 _ (there here) zero m p = there here
+made_5 _ (there here) (suc j) m p = absurd cc
+made_5 _ (there (there i)) j m p = elim i [ ]
+
+demand_first : (n : ℕ) → Demand small (forms without_end) (limit n) 1 first_part
 unfolding run walk
-ends_first = refl
+demand_first n = demands_need (demands_form (omega arith)) (of_top_form n) (no_answer (of_top_form n)) refl (no_error n)
 
-runs_of_top : (w : Work) (a : List (Outcome Name)) → Of5 (form 1) w → True5 (form 1) a → (run5 (form 1) w a ≡ run5 (form 1) top_work []) ⊎ (run5 (form 1) w a ≡ run5 (form 1) top_work answers_5)
-runs_of_top w a of t = go l.0 l.1
-  where
-    p : w ≡ top_work
-    p = one_of small (forms without_end) 5 of (of_top_form 1)
+are_made_5 : (x : Name) → IsIn x parts_5 → MadeBy small (forms without_end) 5 1 x
+unfolding run walk
+are_made_5 _ here = made_by {j = 0} (demands_form (omega arith)) (of_top_form 1) (no_answer (of_top_form 1)) refl
+are_made_5 _ (there here) = made_by {j = 0} (demand_first 1) (of_first 1) (no_answer (of_first 1)) refl
+are_made_5 _ (there (there i)) = elim i [ ]
 
-    l : (c : List (Outcome Name)) × (answers_5 ≡ c ++ a)
-    l = within small (forms without_end) 5 (of_top_form 1) (true_first 1) ends_top t
+are_realised_5 : (x : Name) → IsIn x (first_part ∷ []) → Realised small (forms without_end) 5 1 x
+are_realised_5 _ here = realised (demand_first 1) (gives_first 1)
+are_realised_5 _ (there i) = elim i [ ]
 
-    go : (c : List (Outcome Name)) → answers_5 ≡ c ++ a → (run5 (form 1) w a ≡ run5 (form 1) top_work []) ⊎ (run5 (form 1) w a ≡ run5 (form 1) top_work answers_5)
-    go [] q = inr (rw (p, ← q) refl)
-    go (x ∷ []) q = let s : a ≡ [] = cc in inl (rw (p, s) refl)
-    go (x ∷ y ∷ c) q = absurd cc
+realised_5 : (x : Name) → Realised small (forms without_end) 5 1 x → IsIn x (first_part ∷ [])
+realised_5 _ (realised d g) = behind_form (these_5 d)
 
-run_of_first : (w : Work) (a : List (Outcome Name)) → Of5 first_part w → True5 first_part a → run5 first_part w a ≡ run5 first_part (next_work 0) []
-run_of_first w a of t = go l.0 l.1
-  where
-    p : w ≡ next_work 0
-    p = one_of small (forms without_end) 5 of (of_first 1)
+first_gives_5 : (x : Name) → IsIn x (first_part ∷ []) → (v : Value Name) × Gives small (forms without_end) 5 x (gave v)
+first_gives_5 _ here = (_, gives_first 1)
+first_gives_5 _ (there i) = elim i [ ]
 
-    l : (c : List (Outcome Name)) × ([] ≡ c ++ a)
-    l = within small (forms without_end) 5 (of_first 1) (no_answer (of_first 1)) ends_first t
+failed_5 : (x : Name) → Failed small (forms without_end) 5 1 x → IsIn x []
+failed_5 _ (failed_part d g) = absurd (not_failed 1 among_5 (first_gives_5 _ (behind_form (these_5 d))).1 g)
+failed_5 _ (failed_retry d g) = absurd (no_retry_1 (these_5 d))
 
-    go : (c : List (Outcome Name)) → [] ≡ c ++ a → run5 first_part w a ≡ run5 first_part (next_work 0) []
-    go [] q = rw (p, ← q) refl
-    go (x ∷ c) q = absurd cc
+none_in_5 : (x : Name) → IsIn x [] → Failed small (forms without_end) 5 1 x
+none_in_5 x i = elim i [ ]
 
--- no run makes a future
-no_future : (j : ℕ) (t u : Term Name) → ¬ (slice_get (made Lazy t ∷ []) j ≡ Some (made Future u))
-no_future zero t u p = absurd cc
-no_future (suc j) t u p = absurd cc
+totals_5 : Totals without_end 5 1 2 1 0
+totals_5 = (
+  has_size parts_5 (distinct parts_5 refl) are_made_5 (λ x m. made_among small (forms without_end) 5 1 among_5 only_form followed_5 parts_5 made_5 m) refl,
+  has_size (first_part ∷ []) (distinct (first_part ∷ []) refl) are_realised_5 realised_5 refl,
+  has_size [] (distinct [] refl) none_in_5 failed_5 refl,
+)
 
-abbrev Only : Name → Type 0
-Only x = (x ≡ form 1) ⊎ (x ≡ first_part)
+-- With six steps:
+abbrev among_6 : List Name
+among_6 = form 1 ∷ first_part ∷ second_part ∷ []
 
-need_only : (e n : Name) (w : Work) (a : List (Outcome Name)) (ms : List (Made Name)) → Only e → Of5 e w → True5 e a → run5 e w a ≡ needs n ms → n ≡ first_part
-need_only e n w a ms (inl p) of t r = go (runs_of_top w a (subst (λ x. Of5 x w) p of) (subst (λ x. True5 x a) p t))
-  where
-    r' : run5 (form 1) w a ≡ needs n ms
-    r' = subst (λ x. run5 x w a ≡ needs n ms) p r
+needs_6 : run small (forms without_end) 6 (form 1) top_work [] ≡ needs first_part top_makes
+unfolding run walk
+needs_6 = refl
 
-    go : (run5 (form 1) w a ≡ run5 (form 1) top_work []) ⊎ (run5 (form 1) w a ≡ run5 (form 1) top_work answers_5) → n ≡ first_part
-    go (inl q) = let s = asks_first in cc
-    go (inr q) = let s = ends_top in absurd cc
-need_only e n w a ms (inr p) of t r =
-    let r' : run5 first_part w a ≡ needs n ms = subst (λ x. run5 x w a ≡ needs n ms) p r in
-    let q = run_of_first w a (subst (λ x. Of5 x w) p of) (subst (λ x. True5 x a) p t) in
-    let s = ends_first in absurd cc
+needs_6_more : run small (forms without_end) 6 (form 1) top_work answers_1 ≡ needs second_part top_makes
+unfolding run walk
+needs_6_more = refl
 
-future_none : (e : Name) (w : Work) (a : List (Outcome Name)) (j : ℕ) (u : Term Name) → Only e → Of5 e w → True5 e a → ¬ (slice_get (makes_of (run5 e w a)) j ≡ Some (made Future u))
-future_none e w a j u (inl p) of t m = go (runs_of_top w a (subst (λ x. Of5 x w) p of) (subst (λ x. True5 x a) p t))
-  where
-    m' : slice_get (makes_of (run5 (form 1) w a)) j ≡ Some (made Future u)
-    m' = subst (λ x. slice_get (makes_of (run5 x w a)) j ≡ Some (made Future u)) p m
+end_6 : run small (forms without_end) 6 (form 1) top_work answers_2 ≡ ends (threw Steps) top_makes
+unfolding run walk
+end_6 = refl
 
-    go : (run5 (form 1) w a ≡ run5 (form 1) top_work []) ⊎ (run5 (form 1) w a ≡ run5 (form 1) top_work answers_5) → ⊥
-    go (inl q) = no_future j _ u (subst (λ r. slice_get (makes_of r) j ≡ Some (made Future u)) (q ∙ asks_first) m')
-    go (inr q) = no_future j _ u (subst (λ r. slice_get (makes_of r) j ≡ Some (made Future u)) (q ∙ ends_top) m')
-future_none e w a j u (inr p) of t m =
-    let m' : slice_get (makes_of (run5 first_part w a)) j ≡ Some (made Future u) = subst (λ x. slice_get (makes_of (run5 x w a)) j ≡ Some (made Future u)) p m in
-    let q = run_of_first w a (subst (λ x. Of5 x w) p of) (subst (λ x. True5 x a) p t) in
-    no_future j _ u (subst (λ r. slice_get (makes_of r) j ≡ Some (made Future u)) (q ∙ ends_first) m')
+abbrev followed_6 : (e : Name) → IsIn e among_6 → Followed small (forms without_end) 6 1 among_6 e
+followed_6 _ here = record {
+  w = top_work;
+  a = answers_2;
+  o = threw Steps;
+  ms = top_makes;
+  of = of_top_form 2;
+  answers = one_more (of_top_form 2) (one_more (of_top_form 2) (no_answer (of_top_form 2)) needs_6 (gives_first 2)) needs_6_more (gives_second 2);
+  end = end_6;
+  asks = one_leads (leads_on (no_second_error 2) (there (there here))) (one_leads (leads_on (no_error 2) (there here)) none_leads);
+  futures = λ j t p. absurd (one_lazy _ _ j t p);
+}
+followed_6 _ (there here) = followed_first 2 among_6
+followed_6 _ (there (there here)) = followed_second 2 among_6
+followed_6 _ (there (there (there i))) = elim i [ ]
 
-only_these : {x : Name} → Demand small (forms without_end) 5 1 x → Only x
-only_these (demands_form {i = i} h) = let p : i ≡ 0 = omega arith in inl (ap (λ k. form (suc k)) p)
-only_these (demands_need d of t r h) = inr (need_only _ _ _ _ _ (only_these d) of t r)
-only_these (demands_retry {n = n} d of t r h) =
-    let p : n ≡ first_part = need_only _ _ _ _ _ (only_these d) of t r in
-    absurd (no_error 1 (subst (λ y. FailsLazily small (forms without_end) 5 1 y) p h))
-only_these (demands_future d of t m) = absurd (future_none _ _ _ _ _ (only_these d) of t m)
+these_6 : {x : Name} → Demand small (forms without_end) 6 1 x → IsIn x among_6
+these_6 = demanded_among small (forms without_end) 6 1 among_6 only_form followed_6
 
-second_not_realised : (x : Name) → x ≡ second_part → ¬ (Realised small (forms without_end) 5 1 x)
-second_not_realised x p (realised {e = e} {j = j} d g) = go (only_these d)
-  where
-    go : Only (part e j) → ⊥
-    go (inl q) = absurd cc
-    go (inr q) = absurd cc
+abbrev parts_6 : List Name
+parts_6 = first_part ∷ second_part ∷ part second_part 1 ∷ []
+
+abbrev given_6 : List Name
+given_6 = first_part ∷ second_part ∷ []
+
+made_6 : (e : Name) (i : IsIn e among_6) (j : ℕ) (m : Made Name) → slice_get (followed_6 e i).ms j ≡ Some m → IsIn (part e (suc j)) parts_6
+made_6 _ here zero m p = here
+made_6 _ here (suc j) m p = absurd cc
+made_6 _ (there here) zero m p = there here
+made_6 _ (there here) (suc j) m p = absurd cc
+made_6 _ (there (there here)) zero m p = there (there here)
+made_6 _ (there (there here)) (suc j) m p = absurd cc
+made_6 _ (there (there (there i))) j m p = elim i [ ]
+
+demand_second : Demand small (forms without_end) 6 1 second_part
+unfolding run walk
+demand_second = demands_need (demands_form (omega arith)) (of_top_form 2) (true_first 2) refl (no_second_error 2)
+
+are_made_6 : (x : Name) → IsIn x parts_6 → MadeBy small (forms without_end) 6 1 x
+unfolding run walk
+are_made_6 _ here = made_by {j = 0} (demands_form (omega arith)) (of_top_form 2) (no_answer (of_top_form 2)) refl
+are_made_6 _ (there here) = made_by {j = 0} (demand_first 2) (of_first 2) (no_answer (of_first 2)) refl
+are_made_6 _ (there (there here)) = made_by {j = 0} demand_second (of_second 2) (no_answer (of_second 2)) refl
+are_made_6 _ (there (there (there i))) = elim i [ ]
+
+are_realised_6 : (x : Name) → IsIn x given_6 → Realised small (forms without_end) 6 1 x
+are_realised_6 _ here = realised (demand_first 2) (gives_first 2)
+are_realised_6 _ (there here) = realised demand_second (gives_second 2)
+are_realised_6 _ (there (there i)) = elim i [ ]
+
+realised_6 : (x : Name) → Realised small (forms without_end) 6 1 x → IsIn x given_6
+realised_6 _ (realised d g) = behind_form (these_6 d)
+
+gives_6 : (x : Name) → IsIn x given_6 → (v : Value Name) × Gives small (forms without_end) 6 x (gave v)
+gives_6 _ here = (_, gives_first 2)
+gives_6 _ (there here) = (_, gives_second 2)
+gives_6 _ (there (there i)) = elim i [ ]
+
+failed_6 : (x : Name) → Failed small (forms without_end) 6 1 x → IsIn x []
+failed_6 _ (failed_part d g) = absurd (not_failed 2 among_6 (gives_6 _ (behind_form (these_6 d))).1 g)
+failed_6 _ (failed_retry d g) = absurd (no_retry_2 (these_6 d))
+
+none_in_6 : (x : Name) → IsIn x [] → Failed small (forms without_end) 6 1 x
+none_in_6 x i = elim i [ ]
+
+totals_6 : Totals without_end 6 1 3 2 0
+totals_6 = (
+  has_size parts_6 (distinct parts_6 refl) are_made_6 (λ x m. made_among small (forms without_end) 6 1 among_6 only_form followed_6 parts_6 made_6 m) refl,
+  has_size given_6 (distinct given_6 refl) are_realised_6 realised_6 refl,
+  has_size [] (distinct [] refl) none_in_6 failed_6 refl,
+)
 
 pub without_end_throws : WithoutEnd
-without_end_throws = (six_steps, second_realised, five_steps, first_realised 1, second_not_realised second_part refl)
+without_end_throws = (six_steps, totals_6, five_steps, totals_5)

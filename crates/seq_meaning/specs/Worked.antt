@@ -6,9 +6,9 @@ use Rattle.seq_values.specs.declared.words.Builtin.{Builtin}
 use Rattle.seq_values.specs.declared.words.Builtin.TheVariants as B
 use Rattle.seq_values.specs.Model.{text, gave, threw}
 use Rattle.clj_script.specs.Trees.{int_literal, keyword_literal, Expr, literal, word, defined, vector_of, call_of, exprs, Top, def, prn, Program}
-use Rattle.seq_meaning.specs.Names.{Name, form, part, retry}
+use Rattle.seq_meaning.specs.Names.{Name, form, retry}
 use Rattle.seq_meaning.specs.Gives.{Gives}
-use Rattle.seq_meaning.specs.Counts.{Demand, Realised, Failed}
+use Rattle.seq_meaning.specs.Counts.{MadeBy, Realised, Failed, HasSize}
 use Rattle.seq_meaning.specs.SmallTable.{small}
 
 abbrev pub number : ℕ → Expr
@@ -29,6 +29,11 @@ Prints tops limit e bytes = Gives small (forms tops) limit e (gave (text bytes))
 abbrev pub Throws : List Top → ℕ → Name → Thrown → Type 0
 Throws tops limit e why = Gives small (forms tops) limit e (threw why)
 
+-- so many parts are made, realised and failed, as a ledger after form k says
+abbrev pub Totals : List Top → ℕ → ℕ → ℕ → ℕ → ℕ → Type 0
+Totals tops limit k makes realises fails =
+    HasSize (MadeBy small (forms tops) limit k) makes × HasSize (Realised small (forms tops) limit k) realises × HasSize (Failed small (forms tops) limit k) fails
+
 -- (prn (reduce + (take 3 (map inc (range 3)))))
 abbrev pub sum_form : Top
 sum_form = prn (calls B.Reduce (word B.Plus ∷ calls B.Take (number 3 ∷ calls B.Map (word B.Inc ∷ calls B.Range (number 3 ∷ []) ∷ []) ∷ []) ∷ []))
@@ -36,9 +41,12 @@ sum_form = prn (calls B.Reduce (word B.Plus ∷ calls B.Take (number 3 ∷ calls
 abbrev pub sum_of_three : List Top
 sum_of_three = sum_form ∷ []
 
--- The form takes fourteen own steps: with as many or more it writes 6, with one less it throws.
+-- The form takes fourteen own steps: with as many or more it writes 6, with one less it throws. Its parts are the part of `map`, which is one chunk, the part behind that chunk, which nobody asks, and four parts of `take`.
 abbrev pub SumOfThree : Type 0
-SumOfThree = ((limit : ℕ) → 14 ≤ limit → Prints sum_of_three limit (form 1) (codes "6")) × Throws sum_of_three 13 (form 1) Steps
+SumOfThree =
+    ((limit : ℕ) → 14 ≤ limit → Prints sum_of_three limit (form 1) (codes "6"))
+    × Throws sum_of_three 13 (form 1) Steps
+    × ((limit : ℕ) → 13 ≤ limit → Totals sum_of_three limit 1 6 5 0)
 
 -- (prn (inc 1))
 abbrev pub inc_form : Top
@@ -68,7 +76,7 @@ AskedTwice =
     × Throws asked_twice limit (form 3) BadType
     × Failed small (forms asked_twice) limit 3 (retry (form 2))
     × Failed small (forms asked_twice) limit 3 (retry (form 3))
-    × ¬ (Demand small (forms asked_twice) limit 3 (part (form 1) 1)))
+    × Totals asked_twice limit 3 1 0 2)
     × Throws asked_twice 1 (form 2) Steps
     × Throws asked_twice 1 (form 3) Steps
 
@@ -79,11 +87,10 @@ iterate_form = prn (calls B.Iterate (word B.Inc ∷ number 0 ∷ []))
 abbrev pub without_end : List Top
 without_end = iterate_form ∷ []
 
--- The call, the visit of the whole, and then a visit and an ask for each element. So with six steps the second part is realised, and with five only the first one is.
+-- The call, the visit of the whole, and then a visit and an ask for each element. So with six steps two parts are realised, and with five one is.
 abbrev pub WithoutEnd : Type 0
 WithoutEnd =
     Throws without_end 6 (form 1) Steps
-    × Realised small (forms without_end) 6 1 (part (part (form 1) 1) 1)
+    × Totals without_end 6 1 3 2 0
     × Throws without_end 5 (form 1) Steps
-    × Realised small (forms without_end) 5 1 (part (form 1) 1)
-    × ¬ (Realised small (forms without_end) 5 1 (part (part (form 1) 1) 1))
+    × Totals without_end 5 1 2 1 0
