@@ -2,13 +2,23 @@
 #![tactic(auto)]
 
 mod cell_id;
+mod depth;
+mod line;
+mod node;
+mod print;
 mod term;
 mod text;
 mod value;
 mod words;
 
 pub use cell_id::CellId;
+pub use depth::depth_of;
+pub use line::Line;
+pub use print::print_atom;
 pub use term::{Answer, CallStop, Term, Turn};
 pub use text::Text;
 pub use value::{FnValue, Held, Node, Value};
 pub use words::{Builtin, FolderKind, Kind, Op, Target, XfKind};
+
+#[cfg(test)]
+mod tests;

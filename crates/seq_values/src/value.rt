@@ -105,3 +105,7 @@ impl Share for FnValue {
         })
     }
 }
+
+const _: () = prove!(size_of::<Value>() == 40);
+
+const _: () = prove!(size_of::<Held>() == 8);

@@ -8,3 +8,6 @@ mod shared;
 pub use pvec::PVec;
 pub use share::{NoMemory, Share};
 pub use shared::Shared;
+
+#[cfg(test)]
+mod tests;
