@@ -3,24 +3,9 @@ use Rattle.std.specs.Prelude.{ℕ, Bool, true, false, nat_eq, cond, List, [], �
 use Rattle.std.specs.Fmt.{signed_decimal}
 use Rattle.seq_base.specs.declared.thrown.Thrown.TheVariants.{BadType}
 use Rattle.seq_values.specs.Model.{Value, nil, bool, int, keyword, text, vector, function, reduced, list}
+use Rattle.seq_values.specs.Text.{escaped}
 use Rattle.seq_plan.specs.Plan.{Plan, seq, go, give, throw, then, print_value, print_rest, Round, ends_with, fails, visits}
 use Rattle.seq_plan.specs.Nodes.{first_of, rest_of, round_at}
-
--- The bytes that are shown by a letter after a backslash: newline, tab, return, form feed, backspace, quote and backslash.
-abbrev pub escaped : ℕ → List ℕ
-escaped byte =
-    cond (nat_eq byte 10) (codes "\\n")
-    (cond (nat_eq byte 9) (codes "\\t")
-    (cond (nat_eq byte 13) (codes "\\r")
-    (cond (nat_eq byte 12) (codes "\\f")
-    (cond (nat_eq byte 8) (codes "\\b")
-    (cond (nat_eq byte 34) (92 ∷ 34 ∷ [])
-    (cond (nat_eq byte 92) (92 ∷ 92 ∷ []) (byte ∷ [])))))))
-
--- the bytes of a text inside its quotes
-abbrev pub all_escaped : List ℕ → List ℕ
-all_escaped [] = []
-all_escaped (byte ∷ bytes) = escaped byte ++ all_escaped bytes
 
 -- the text so far, with a space where an element stands in it
 abbrev pub spaced : Bool → List ℕ → List ℕ
@@ -53,7 +38,7 @@ module _ {C : Type 0} where
   print_on so_far (bool false) = adds so_far (codes "false")
   print_on so_far (int n) = adds so_far (signed_decimal n)
   print_on so_far (keyword name) = adds so_far (codes ":" ++ name)
-  print_on so_far (text bytes) = adds so_far (34 ∷ all_escaped bytes ++ 34 ∷ [])
+  print_on so_far (text bytes) = adds so_far (34 ∷ flat_map escaped bytes ++ 34 ∷ [])
   print_on so_far (vector xs) = print_vector so_far (list xs)
   print_on so_far (function t xs) = adds so_far (codes "#fn")
   print_on so_far (reduced v) = prints_next (so_far ++ codes "#reduced ") v give

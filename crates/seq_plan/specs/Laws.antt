@@ -3,6 +3,8 @@ use Rattle.std.specs.Prelude.{◌≡◌, ℕ, Bool}
 use Rattle.seq_values.specs.Model.{Value}
 use Rattle.seq_plan.specs.Plan.{Plan, then, give}
 use Rattle.seq_plan.specs.Nodes.{depth, first_of, rests_of}
+use Rattle.seq_plan.specs.declared.cursor.Cursor.{Cursor}
+use Rattle.seq_plan.specs.Cursors.{stands, IsFound}
 use Rattle.seq_plan.specs.Alike.{Tells, Like, LikePlan}
 
 -- what goes on after two plans may be joined in either order, and a value that is given goes straight on
@@ -26,3 +28,7 @@ LikeRests = (test : ℕ → ℕ → Bool) (n : ℕ) (v w : Value ℕ) → Like (
 -- like plans that go on alike are alike
 abbrev pub LikeThen : Type 0
 LikeThen = (test : ℕ → ℕ → Bool) (p q : Plan ℕ) (f g : Value ℕ → Plan ℕ) → LikePlan (Tells test) p q → ((v w : Value ℕ) → Like (Tells test) v w → LikePlan (Tells test) (f v) (g w)) → LikePlan (Tells test) (then p f) (then q g)
+
+-- `seq` of what a cursor stands for is that itself, so that a walk may go straight on
+abbrev pub CursorIsFound : Type 0
+CursorIsFound = (c : Cursor) → IsFound (stands c)

@@ -1,7 +1,13 @@
-//! The plan of a work, what the rules say of nodes, and likeness. Each function states a law over the definitions.
+//! The plan of a work, what the rules say of nodes, and likeness. Cursors over nodes. A function named `law_` states a law over the definitions.
 #![tactic(auto)]
 
-ghost use Rattle.seq_plan.specs.Laws.{ThenJoins, ThenGives, LikeIsAsDeep, LikeFirsts, LikeRests, LikeThen};
+mod cursor;
+mod left;
+
+ghost use Rattle.seq_plan.specs.Laws.{ThenJoins, ThenGives, LikeIsAsDeep, LikeFirsts, LikeRests, LikeThen, CursorIsFound};
+
+pub use cursor::{Cursor, Walked, cursor_at};
+pub use left::{HeadsLeft, ItemsLeft, RangeLeft, VecLeft};
 
 /// What goes on after two plans may be joined in either order.
 pub fn law_then_joins()
@@ -31,4 +37,9 @@ pub fn law_like_rests()
 /// Like plans that go on alike are alike.
 pub fn law_like_then()
     ensures { LikeThen }
+{}
+
+/// `seq` of what a cursor stands for is that itself.
+pub fn law_cursor_is_found()
+    ensures { CursorIsFound }
 {}

@@ -2,19 +2,17 @@
 use Rattle.std.specs.Prelude.{ℕ, List, map}
 use Rattle.seq_values.specs.Model as M
 use Rattle.seq_values.specs.declared.term.Term.{Term}
-use Rattle.seq_values.specs.declared.value.Value.{Value}
-use Rattle.seq_values.specs.declared.value.Node.TheOpen.{Node-F, Value-F, FnValue-F}
-use Rattle.seq_values.specs.declared.value.Node.TheFolds.{fold-Value}
+use Rattle.seq_values.specs.Layers.{Value, NodeLayer, ValueLayer, FunctionLayer, Node-F, Value-F, fold_value}
 
 -- One level of a value, with what it holds already seen.
-abbrev pub node_step : Node-F (M.Value ℕ) (M.Value ℕ) (M.Value ℕ) → M.Value ℕ
+abbrev pub node_step : NodeLayer (M.Value ℕ) → M.Value ℕ
 node_step Node-F.Empty = M.empty
 node_step (Node-F.Cons heads rest) = M.cons (M.values heads) rest
 node_step (Node-F.Chunk items rest) = M.chunk (M.values items) rest
 node_step (Node-F.Range from at end) = M.range from at end
 node_step (Node-F.VecSeq items at) = M.vec_seq (M.values items) at
 
-abbrev pub value_step : Value-F (M.Value ℕ) (M.Value ℕ) (M.Value ℕ) → M.Value ℕ
+abbrev pub value_step : ValueLayer (M.Value ℕ) → M.Value ℕ
 value_step Value-F.Nil = M.nil
 value_step (Value-F.Bool truth) = M.bool truth
 value_step (Value-F.Int number) = M.int number
@@ -26,11 +24,11 @@ value_step (Value-F.Node n) = n
 value_step (Value-F.Reduced v) = M.reduced v
 value_step (Value-F.Cell id) = M.cell id
 
-abbrev pub function_step : FnValue-F (M.Value ℕ) (M.Value ℕ) (M.Value ℕ) → M.Value ℕ
+abbrev pub function_step : FunctionLayer (M.Value ℕ) → M.Value ℕ
 function_step f = M.function f.target (M.values f.bound)
 
 abbrev pub plain : Value → M.Value ℕ
-plain = fold-Value (M.Value ℕ) (M.Value ℕ) (M.Value ℕ) node_step value_step function_step
+plain = fold_value (M.Value ℕ) node_step value_step function_step
 
 abbrev pub plains : List Value → List (M.Value ℕ)
 plains xs = map plain xs
