@@ -1,5 +1,5 @@
 -- The text of a value. Printing realises the value from left to right, with one own step for each value that it prints.
-use Rattle.std.specs.Prelude.{ℕ, Bool, true, false, nat_eq, cond, List, [], ◌∷◌, ◌++◌, codes}
+use Rattle.std.specs.Prelude.{ℕ, Bool, true, false, List, [], ◌∷◌, ◌++◌, flat_map, codes}
 use Rattle.std.specs.Fmt.{signed_decimal}
 use Rattle.seq_base.specs.declared.thrown.Thrown.TheVariants.{BadType}
 use Rattle.seq_values.specs.Model.{Value, nil, bool, int, keyword, text, vector, function, reduced, list}
