@@ -1,6 +1,7 @@
 //! The values of a script, its words, and the terms and turns of the rules that work on them.
 #![tactic(auto)]
 
+mod builders;
 mod cell_id;
 mod depth;
 mod line;
@@ -11,6 +12,7 @@ mod text;
 mod value;
 mod words;
 
+pub use builders::{before, chunk_before, empty_list, integer, is_nil, one_item, part, reduced, term_of_one, term_of_two, truth, two_items, vector, word_value};
 pub use cell_id::CellId;
 pub use depth::{depth_of, depth_of_all};
 pub use line::Line;

@@ -1,0 +1,2 @@
+//! The program of a script.
+#![tactic(auto)]

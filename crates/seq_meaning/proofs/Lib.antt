@@ -1,0 +1,14 @@
+pub mod OneMores
+pub mod Once
+pub mod AlikeWalk
+pub mod Twinned
+pub mod Reaching
+pub mod Trails
+pub mod AlikePrints
+pub mod SmallAlike
+pub mod NameTests
+pub mod Worked
+pub mod WorkedSum
+pub mod WorkedTwice
+pub mod WorkedEndless
+pub mod Closing

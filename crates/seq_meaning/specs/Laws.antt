@@ -1,0 +1,81 @@
+-- The laws over the definitions, as statements. They hold of every table of rules, but for those that ask that the rules rename.
+use Rattle.std.specs.Prelude.{◌≡◌, ℕ, suc, Bool, List, ◌∷◌, ◌++◌, length, ◌⊎◌}
+use Rattle.seq_base.specs.declared.thrown.Thrown.{Thrown}
+use Rattle.seq_values.specs.declared.words.Kind.{Kind}
+use Rattle.seq_values.specs.declared.words.Kind.TheVariants.{Lazy}
+use Rattle.seq_values.specs.Model.{Value, Outcome, gave, threw}
+use Rattle.clj_script.specs.Trees.{Program}
+use Rattle.seq_plan.specs.Plan.{Rules, Plan, ask, give, throw}
+use Rattle.seq_plan.specs.Alike.{Tells, LikePlan}
+use Rattle.seq_meaning.specs.Evaluates.{Script}
+use Rattle.seq_meaning.specs.Walk.{Made, needs, ends, makes_of, walk}
+use Rattle.seq_meaning.specs.Names.{Name, retry}
+use Rattle.seq_meaning.specs.Gives.{Work, run, Of, Part, True, Gives}
+use Rattle.seq_meaning.specs.Alike.{LikeScript, LikeAnswers, LikeRun}
+use Rattle.seq_meaning.specs.Twins.{TwinEval, TwinCell, LikeWork, Renames}
+use Rattle.seq_meaning.specs.More.{OneMore, IsDefined}
+use Rattle.seq_meaning.specs.Reached.{Reached}
+use Rattle.seq_meaning.specs.Trail.{Trail, answers_of, mades_of, Calls}
+
+-- each name has at most one work
+abbrev pub OneWork : Type 0
+OneWork = (rules : Rules Name) (program : Program) (limit : ℕ) (e : Name) (w v : Work) → Of rules program limit e w → Of rules program limit e v → w ≡ v
+
+-- each part is of one kind and has one work
+abbrev pub OnePart : Type 0
+OnePart = (rules : Rules Name) (program : Program) (limit : ℕ) (n : Name) (kind other : Kind) (w v : Work) → Part rules program limit n kind w → Part rules program limit n other v → (kind ≡ other) × (w ≡ v)
+
+-- each name gives at most one outcome
+abbrev pub OneOutcome : Type 0
+OneOutcome = (rules : Rules Name) (program : Program) (limit : ℕ) (e : Name) (o p : Outcome Name) → Gives rules program limit e o → Gives rules program limit e p → o ≡ p
+
+-- a name has at most one list of true answers of a length
+abbrev pub OneAnswer : Type 0
+OneAnswer = (rules : Rules Name) (program : Program) (limit : ℕ) (e : Name) (a b : List (Outcome Name)) → True rules program limit e a → True rules program limit e b → length a ≡ length b → a ≡ b
+
+-- of two lists of true answers one is the other with more answers, the last one first
+abbrev pub OneOrder : Type 0
+OneOrder = (rules : Rules Name) (program : Program) (limit : ℕ) (e : Name) (a b : List (Outcome Name)) → True rules program limit e a → True rules program limit e b → ((more : List (Outcome Name)) × (a ≡ more ++ b)) ⊎ ((more : List (Outcome Name)) × (b ≡ more ++ a))
+
+-- each list of answers has a run, which is over just where a run of fewer of them has ended
+abbrev pub RunDefined : Type 0
+RunDefined = (rules : Rules Name) (program : Program) (limit : ℕ) (e : Name) (w : Work) (a : List (Outcome Name)) → IsDefined (run rules program limit e w) a
+
+-- what one more answer does to a run; an error ends it
+abbrev pub RunGoesOn : Type 0
+RunGoesOn = (rules : Rules Name) (program : Program) (limit : ℕ) (e : Name) (w : Work) (a : List (Outcome Name)) (o : Outcome Name) → OneMore o (run rules program limit e w a) (run rules program limit e w (o ∷ a))
+
+-- after a thrown answer nothing is needed
+abbrev pub NoneAfterThrow : Type 0
+NoneAfterThrow = (rules : Rules Name) (program : Program) (limit : ℕ) (e : Name) (w : Work) (a more : List (Outcome Name)) (x : Thrown) (n : Name) (ms : List (Made Name)) → ¬ (run rules program limit e w (more ++ threw x ∷ a) ≡ needs n ms)
+
+-- the makes under a longer list of true answers begin with those under a shorter one
+abbrev pub MakesGrow : Type 0
+MakesGrow = (rules : Rules Name) (program : Program) (limit : ℕ) (e : Name) (w : Work) (a more : List (Outcome Name)) → Of rules program limit e w → True rules program limit e (more ++ a) → (ms : List (Made Name)) × (makes_of (run rules program limit e w (more ++ a)) ≡ makes_of (run rules program limit e w a) ++ ms)
+
+-- A run in numbers is like the run in names: like plans, walked with like answers and like names for the makes, run alike. The test tells which name a number has.
+abbrev pub RunsRename : Type 0
+RunsRename = (test : ℕ → Name → Bool) (s : Script ℕ) (t : Script Name) → LikeScript (Tells test) s t → (number_of : ℕ → ℕ) (name_of : ℕ → Name) → ((j : ℕ) → Tells test (number_of j) (name_of j)) → (n : ℕ) (p : Plan ℕ) (q : Plan Name) → LikePlan (Tells test) p q → (j : ℕ) (os : List (Outcome ℕ)) (ps : List (Outcome Name)) → LikeAnswers (Tells test) os ps → LikeRun (Tells test) (walk s number_of n p j os) (walk t name_of n q j ps)
+
+-- two evaluations of one work run alike, where the rules rename
+abbrev pub TwinsRunAlike : Type 0
+TwinsRunAlike = (rules : Rules Name) → Renames rules → (program : Program) (limit : ℕ) (p q e f : Name) → TwinEval p q e f → (w v : Work) → LikeWork (TwinCell p q) w v → (a b : List (Outcome Name)) → LikeAnswers (TwinCell p q) a b → LikeRun (TwinCell p q) (run rules program limit e w a) (run rules program limit f v b)
+
+-- An attempt at a lazy part that gives an error gives that error itself, where the rules rename.
+abbrev pub RetryThrows : Type 0
+RetryThrows = (rules : Rules Name) → Renames rules → (program : Program) (limit : ℕ) (e n : Name) (w v : Work) (a : List (Outcome Name)) (ms : List (Made Name)) (x : Thrown) → Of rules program limit e w → True rules program limit e a → run rules program limit e w a ≡ needs n ms → Part rules program limit n Lazy v → Gives rules program limit n (threw x) → Gives rules program limit (retry e) (threw x)
+
+-- a trail is a part of the walk on its answers, however the further makes will be called
+abbrev pub TrailRuns : Type 0
+TrailRuns = (script : Script ℕ) (limit : ℕ) (whole : Plan ℕ) (n : ℕ) (p : Plan ℕ) (asked : List (ℕ × Outcome ℕ)) (mades : List (ℕ × Made ℕ)) → Trail script limit whole n p asked mades → (cell_of : ℕ → ℕ) → Calls cell_of mades → Reached script cell_of limit whole n p (suc (length mades)) (mades_of mades) (answers_of asked)
+
+-- where a trail comes to an ask, and a step is left, the walk on its answers needs that part
+abbrev pub TrailNeeds : Type 0
+TrailNeeds = (script : Script ℕ) (limit : ℕ) (whole : Plan ℕ) (n c : ℕ) (k : Value ℕ → Plan ℕ) (asked : List (ℕ × Outcome ℕ)) (mades : List (ℕ × Made ℕ)) → Trail script limit whole (suc n) (ask c k) asked mades → (cell_of : ℕ → ℕ) → Calls cell_of mades → walk script cell_of limit whole 1 (answers_of asked) ≡ needs c (mades_of mades)
+
+-- where it comes to a value or to an error, the walk ends by it
+abbrev pub TrailGives : Type 0
+TrailGives = (script : Script ℕ) (limit : ℕ) (whole : Plan ℕ) (n : ℕ) (v : Value ℕ) (asked : List (ℕ × Outcome ℕ)) (mades : List (ℕ × Made ℕ)) → Trail script limit whole n (give v) asked mades → (cell_of : ℕ → ℕ) → Calls cell_of mades → walk script cell_of limit whole 1 (answers_of asked) ≡ ends (gave v) (mades_of mades)
+
+abbrev pub TrailThrows : Type 0
+TrailThrows = (script : Script ℕ) (limit : ℕ) (whole : Plan ℕ) (n : ℕ) (x : Thrown) (asked : List (ℕ × Outcome ℕ)) (mades : List (ℕ × Made ℕ)) → Trail script limit whole n (throw x) asked mades → (cell_of : ℕ → ℕ) → Calls cell_of mades → walk script cell_of limit whole 1 (answers_of asked) ≡ ends (threw x) (mades_of mades)

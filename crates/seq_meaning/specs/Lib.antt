@@ -1,0 +1,14 @@
+pub mod Evaluates
+pub mod Walk
+pub mod Names
+pub mod Gives
+pub mod Counts
+pub mod Alike
+pub mod Twins
+pub mod More
+pub mod Reached
+pub mod Trail
+pub mod Prints
+pub mod SmallTable
+pub mod Worked
+pub mod Laws

@@ -1,0 +1,4 @@
+pub mod AlikeNodes
+pub mod AlikePlans
+pub mod CursorLemmas
+pub mod Thens

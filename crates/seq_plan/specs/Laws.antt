@@ -1,0 +1,34 @@
+-- What holds of plans and of nodes, as statements. A renaming is given by a test that tells which cells are the same.
+use Rattle.std.specs.Prelude.{◌≡◌, ℕ, Bool}
+use Rattle.seq_values.specs.Model.{Value}
+use Rattle.seq_plan.specs.Plan.{Plan, then, give}
+use Rattle.seq_plan.specs.Nodes.{depth, first_of, rests_of}
+use Rattle.seq_plan.specs.declared.cursor.Cursor.{Cursor}
+use Rattle.seq_plan.specs.Cursors.{stands, IsFound}
+use Rattle.seq_plan.specs.Alike.{Tells, Like, LikePlan}
+
+-- what goes on after two plans may be joined in either order, and a value that is given goes straight on
+abbrev pub ThenJoins : Type 0
+ThenJoins = (p : Plan ℕ) (f g : Value ℕ → Plan ℕ) → then (then p f) g ≡ then p (λ v. then (f v) g)
+
+abbrev pub ThenGives : Type 0
+ThenGives = (p : Plan ℕ) → then p give ≡ p
+
+-- like values are equally deep
+abbrev pub LikeIsAsDeep : Type 0
+LikeIsAsDeep = (test : ℕ → ℕ → Bool) (v w : Value ℕ) → Like (Tells test) v w → depth v ≡ depth w
+
+-- like nodes have like firsts and like rests
+abbrev pub LikeFirsts : Type 0
+LikeFirsts = (test : ℕ → ℕ → Bool) (v w : Value ℕ) → Like (Tells test) v w → Like (Tells test) (first_of v) (first_of w)
+
+abbrev pub LikeRests : Type 0
+LikeRests = (test : ℕ → ℕ → Bool) (n : ℕ) (v w : Value ℕ) → Like (Tells test) v w → Like (Tells test) (rests_of n v) (rests_of n w)
+
+-- like plans that go on alike are alike
+abbrev pub LikeThen : Type 0
+LikeThen = (test : ℕ → ℕ → Bool) (p q : Plan ℕ) (f g : Value ℕ → Plan ℕ) → LikePlan (Tells test) p q → ((v w : Value ℕ) → Like (Tells test) v w → LikePlan (Tells test) (f v) (g w)) → LikePlan (Tells test) (then p f) (then q g)
+
+-- `seq` of what a cursor stands for is that itself, so that a walk may go straight on
+abbrev pub CursorIsFound : Type 0
+CursorIsFound = (c : Cursor) → IsFound (stands c)
