@@ -1,0 +1,103 @@
+//! The kinds of byte that tokens are made of.
+ghost use Rattle.std.specs.Prelude.{◌≡◌};
+ghost use Rattle.clj_reader.specs.Spellings.{is_separator, is_bracket, bracket_token, is_word_byte, escaped, is_digit, is_sign, all_digits, is_letter, begins_symbol, in_symbol, all_in_symbol};
+
+use crate::token::{Bracket, Token};
+
+#[tactic(auto, unfolding(crate::specs::Spellings::is_separator))]
+/// Whether a byte separates tokens.
+pub(crate) fn is_separator(byte: u8) -> bool
+    ensures { result ≡ is_separator byte }
+{
+    matches!(byte, b' ' | b'\t' | b'\n' | 0x0c | b'\r' | b',')
+}
+
+#[tactic(auto, unfolding(crate::specs::Spellings::is_bracket))]
+/// Whether a byte is one of the four brackets.
+pub(crate) fn is_bracket(byte: u8) -> bool
+    ensures { result ≡ is_bracket byte }
+{
+    matches!(byte, b'(' | b')' | b'[' | b']')
+}
+
+#[tactic(auto, unfolding(crate::specs::Spellings::bracket_token))]
+/// The token that a bracket is.
+pub(crate) fn bracket_token(byte: u8) -> Token
+    ensures { result ≡ bracket_token byte }
+{
+    match byte {
+        b'(' => Token::Open(Bracket::Round),
+        b')' => Token::Close(Bracket::Round),
+        b'[' => Token::Open(Bracket::Square),
+        _ => Token::Close(Bracket::Square),
+    }
+}
+
+#[tactic(auto, unfolding(crate::specs::Spellings::is_word_byte))]
+/// Whether a word goes on with a byte.
+pub(crate) fn is_word_byte(byte: u8) -> bool
+    ensures { result ≡ is_word_byte byte }
+{
+    !is_separator(byte) && !is_bracket(byte) && byte != b'"' && byte != b';'
+}
+
+#[tactic(auto, unfolding(crate::specs::Spellings::escaped))]
+/// What `\` and a byte stand for in a text.
+pub(crate) fn escaped(byte: u8) -> Option<u8>
+    ensures { result ≡ escaped byte }
+{
+    match byte {
+        b'"' => Some(b'"'),
+        b'\\' => Some(b'\\'),
+        b'n' => Some(b'\n'),
+        b't' => Some(b'\t'),
+        b'r' => Some(b'\r'),
+        _ => None,
+    }
+}
+
+pub(crate) fn is_digit(byte: u8) -> bool
+    ensures { result ≡ is_digit byte }
+{
+    byte >= b'0' && byte <= b'9'
+}
+
+/// Whether a byte is `+` or `-`.
+pub(crate) fn is_sign(byte: u8) -> bool
+    ensures { result ≡ is_sign byte }
+{
+    byte == b'+' || byte == b'-'
+}
+
+pub(crate) fn all_digits(bytes: &[u8]) -> bool
+    ensures { result ≡ all_digits bytes.now }
+{
+    bytes.iter().all(|byte| is_digit(*byte))
+}
+
+fn is_letter(byte: u8) -> bool
+    ensures { result ≡ is_letter byte }
+{
+    (byte >= b'a' && byte <= b'z') || (byte >= b'A' && byte <= b'Z')
+}
+
+/// Whether a symbol may begin with a byte.
+pub(crate) fn begins_symbol(byte: u8) -> bool
+    ensures { result ≡ begins_symbol byte }
+{
+    is_letter(byte)
+        || matches!(byte, b'*' | b'+' | b'!' | b'-' | b'_' | b'?' | b'<' | b'>' | b'=')
+}
+
+/// Whether a symbol may go on with a byte.
+fn in_symbol(byte: u8) -> bool
+    ensures { result ≡ in_symbol byte }
+{
+    begins_symbol(byte) || is_digit(byte) || byte == b'\''
+}
+
+pub(crate) fn all_in_symbol(bytes: &[u8]) -> bool
+    ensures { result ≡ all_in_symbol bytes.now }
+{
+    bytes.iter().all(|byte| in_symbol(*byte))
+}
