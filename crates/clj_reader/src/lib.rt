@@ -7,6 +7,7 @@ mod form;
 mod name;
 mod place;
 mod refusal;
+mod scan;
 mod series;
 mod token;
 mod word;
