@@ -5,6 +5,7 @@ mod bytes;
 mod cursor;
 mod form;
 mod name;
+mod nest;
 mod place;
 mod refusal;
 mod scan;
