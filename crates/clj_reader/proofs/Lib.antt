@@ -1,3 +1,5 @@
+pub mod AssemblyLemmas
 pub mod NestLemmas
 pub mod NumberLemmas
 pub mod TokenLemmas
+pub mod UniqueLemmas

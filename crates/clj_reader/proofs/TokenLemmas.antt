@@ -6,7 +6,7 @@ use Rattle.std.proofs.lemmas.List.{drop_more, take_more, drop_all, get_or-drop, 
 use Rattle.clj_reader.specs.declared.place.Place.{Place}
 use Rattle.clj_reader.specs.declared.token.Token.TheVariants.{Atom}
 use Rattle.clj_reader.specs.declared.token.Lexeme.{Lexeme}
-use Rattle.clj_reader.specs.declared.form.Shape.TheVariants as shape
+use Rattle.clj_reader.specs.declared.token.Atom.TheVariants as atom
 use Rattle.clj_reader.specs.Places.{behind}
 use Rattle.clj_reader.specs.Spellings.{is_separator, is_bracket, bracket_token, is_word_byte, word_token, escaped}
 use Rattle.clj_reader.specs.Tokens.{Standing, between, comment, word, text, escape, tokens, begun, unescaped, lexeme, unreadable}
@@ -142,11 +142,11 @@ escape_at_end s p content = refl
 pub escape_over : (bs : List ℕ) (i : ℕ) (s p : Place) (content : List ℕ) → length bs ≤ i → tokens (escape s content) p (drop i bs) ≡ unreadable s ∷ []
 escape_over bs i s p content h = at_end bs i p h (escape s content) ∙ escape_at_end s p content
 
-text_first_ends : (s p : Place) (content : List ℕ) (b : ℕ) (bs : List ℕ) → eqb b 34 ≡ true → tokens (text s content) p (b ∷ bs) ≡ lexeme s (Atom (shape.Text content)) ∷ tokens between (behind b p) bs
+text_first_ends : (s p : Place) (content : List ℕ) (b : ℕ) (bs : List ℕ) → eqb b 34 ≡ true → tokens (text s content) p (b ∷ bs) ≡ lexeme s (Atom (atom.Text content)) ∷ tokens between (behind b p) bs
 unfolding tokens
 text_first_ends s p content b bs e = rw e refl
 
-pub text_ends : (bs : List ℕ) (i : ℕ) (s p : Place) (content : List ℕ) → i < length bs → get_or bs i 0 ≡ 34 → tokens (text s content) p (drop i bs) ≡ lexeme s (Atom (shape.Text content)) ∷ tokens between (behind (get_or bs i 0) p) (drop (i + 1) bs)
+pub text_ends : (bs : List ℕ) (i : ℕ) (s p : Place) (content : List ℕ) → i < length bs → get_or bs i 0 ≡ 34 → tokens (text s content) p (drop i bs) ≡ lexeme s (Atom (atom.Text content)) ∷ tokens between (behind (get_or bs i 0) p) (drop (i + 1) bs)
 text_ends bs i s p content h e = at_byte bs i p h (text s content) ∙ text_first_ends s p content (get_or bs i 0) (drop (i + 1) bs) (eqb_at _ _ e)
 
 text_first_escape : (s p : Place) (content : List ℕ) (b : ℕ) (bs : List ℕ) → eqb b 34 ≡ false → eqb b 92 ≡ true → tokens (text s content) p (b ∷ bs) ≡ tokens (escape s content) (behind b p) bs

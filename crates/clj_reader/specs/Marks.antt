@@ -10,7 +10,8 @@ use Rattle.clj_reader.specs.declared.form.Form.{Form}
 use Rattle.clj_reader.specs.declared.form.Shape.{Shape}
 use Rattle.clj_reader.specs.declared.form.Shape.TheOpen.{Shape-F, Form-F}
 use Rattle.clj_reader.specs.declared.form.Shape.TheFolds.{fold-Form, fold-Shape}
-use Rattle.clj_reader.specs.declared.form.Shape.TheVariants as shape
+use Rattle.clj_reader.specs.declared.token.Atom as atoms
+use Rattle.clj_reader.specs.declared.token.Atom.TheVariants as atom
 
 -- A token and its place, which a form doesn't keep of a closing bracket.
 pub record Mark : Type 0 where
@@ -20,7 +21,7 @@ pub record Mark : Type 0 where
 abbrev pub mark : Place → Token → Mark
 mark p (Close b) = record { place = None; token = Close b }
 mark p (Open b) = record { place = Some p; token = Open b }
-mark p (Atom s) = record { place = Some p; token = Atom s }
+mark p (Atom a) = record { place = Some p; token = Atom a }
 mark p (Bad flaw) = record { place = Some p; token = Bad flaw }
 
 -- the marks of tokens
@@ -31,8 +32,8 @@ abbrev pub joined : List (List Mark) → List Mark
 joined [] = []
 joined (m ∷ ms) = m ++ joined ms
 
-abbrev pub atom : Shape → Place → List Mark
-atom s p = mark p (Atom s) ∷ []
+abbrev pub alone : atoms.Atom → Place → List Mark
+alone a p = mark p (Atom a) ∷ []
 
 -- what stands between brackets of a kind, where the first is at a place
 abbrev pub bracketed : Bracket → List Mark → Place → List Mark
@@ -40,12 +41,12 @@ bracketed b inner p = mark p (Open b) ∷ (inner ++ mark p (Close b) ∷ [])
 
 -- one level of a shape at a place, with the marks of the forms that it holds
 abbrev pub marks_of_level : Shape-F (Place → List Mark) (List Mark) → Place → List Mark
-marks_of_level Shape-F.Nil = atom shape.Nil
-marks_of_level (Shape-F.Bool b) = atom (shape.Bool b)
-marks_of_level (Shape-F.Int z) = atom (shape.Int z)
-marks_of_level (Shape-F.Text name) = atom (shape.Text name)
-marks_of_level (Shape-F.Keyword name) = atom (shape.Keyword name)
-marks_of_level (Shape-F.Symbol name) = atom (shape.Symbol name)
+marks_of_level Shape-F.Nil = alone atom.Nil
+marks_of_level (Shape-F.Bool b) = alone (atom.Bool b)
+marks_of_level (Shape-F.Int z) = alone (atom.Int z)
+marks_of_level (Shape-F.Text name) = alone (atom.Text name)
+marks_of_level (Shape-F.Keyword name) = alone (atom.Keyword name)
+marks_of_level (Shape-F.Symbol name) = alone (atom.Symbol name)
 marks_of_level (Shape-F.List forms) = bracketed Round (joined forms)
 marks_of_level (Shape-F.Vector forms) = bracketed Square (joined forms)
 

@@ -5,6 +5,8 @@ use Rattle.clj_reader.specs.declared.token.Token.{Token}
 use Rattle.clj_reader.specs.declared.token.Token.TheVariants.{Open, Close, Atom, Bad}
 use Rattle.clj_reader.specs.declared.token.Bracket.{Bracket}
 use Rattle.clj_reader.specs.declared.token.Bracket.TheVariants.{Round, Square}
+use Rattle.clj_reader.specs.declared.token.Atom as atoms
+use Rattle.clj_reader.specs.declared.token.Atom.TheVariants as atom
 use Rattle.clj_reader.specs.declared.token.Lexeme.{Lexeme}
 use Rattle.clj_reader.specs.declared.nest.Opening.{Opening}
 use Rattle.clj_reader.specs.declared.nest.Nest.{Nest}
@@ -18,6 +20,15 @@ use Rattle.clj_reader.specs.Refusals.{refusal, flaw_number, same_bracket}
 
 abbrev pub form : Place → Shape → Form
 form place kind = record { place = place; shape = kind }
+
+-- an atom as a shape
+abbrev pub shape_of : atoms.Atom → Shape
+shape_of atom.Nil = shape.Nil
+shape_of (atom.Bool b) = shape.Bool b
+shape_of (atom.Int z) = shape.Int z
+shape_of (atom.Text name) = shape.Text name
+shape_of (atom.Keyword name) = shape.Keyword name
+shape_of (atom.Symbol name) = shape.Symbol name
 
 abbrev pub opening : Place → Bracket → List Form → Opening
 opening place bracket before = record { place = place; bracket = bracket; before = before }
@@ -44,7 +55,7 @@ nested opened forms p (Open b) = if nat_lt (length opened) 200 then Ok (level (o
 nested [] forms p (Close b) = Err (refusal 2 p)
 nested (o ∷ opened) forms p (Close b) =
     if same_bracket b o.bracket then Ok (level opened (o.before ++ form o.place (group o.bracket forms) ∷ [])) else Err (refusal 2 p)
-nested opened forms p (Atom s) = Ok (level opened (forms ++ form p s ∷ []))
+nested opened forms p (Atom a) = Ok (level opened (forms ++ form p (shape_of a) ∷ []))
 nested opened forms p (Bad flaw) = Err (refusal (flaw_number flaw) p)
 
 -- the forms at the end, where no bracket stands open

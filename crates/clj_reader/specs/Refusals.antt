@@ -33,7 +33,7 @@ abbrev pub opened_behind : List (Place × Bracket) → Place → Token → Resul
 opened_behind opened p (Open b) = if nat_lt (length opened) 200 then Ok ((p, b) ∷ opened) else Err (refusal 5 p)
 opened_behind [] p (Close b) = Err (refusal 2 p)
 opened_behind (o ∷ opened) p (Close b) = if same_bracket b o.1 then Ok opened else Err (refusal 2 p)
-opened_behind opened p (Atom shape) = Ok opened
+opened_behind opened p (Atom atom) = Ok opened
 opened_behind opened p (Bad flaw) = Err (refusal (flaw_number flaw) p)
 
 -- the innermost bracket that is open at the end is refused

@@ -6,7 +6,7 @@ use Rattle.clj_reader.specs.declared.token.Token.{Token}
 use Rattle.clj_reader.specs.declared.token.Token.TheVariants.{Open, Close, Atom, Bad}
 use Rattle.clj_reader.specs.declared.token.Bracket.TheVariants.{Round, Square}
 use Rattle.clj_reader.specs.declared.token.Flaw.TheVariants.{Unreadable, TooLarge}
-use Rattle.clj_reader.specs.declared.form.Shape.TheVariants as shape
+use Rattle.clj_reader.specs.declared.token.Atom.TheVariants as atom
 
 -- space, tab, newline, form feed, carriage return and comma separate tokens
 unfoldable pub is_separator : ℕ → Bool
@@ -72,7 +72,7 @@ integer_value w = let n = decimal_from 0 (unsigned w) in
 
 abbrev pub integer_token : Option ℤ → Token
 integer_token None = Bad TooLarge
-integer_token (Some z) = Atom (shape.Int z)
+integer_token (Some z) = Atom (atom.Int z)
 
 abbrev pub is_letter : ℕ → Bool
 is_letter b = (nat_le 97 b && nat_le b 122) || (nat_le 65 b && nat_le b 90)
@@ -127,10 +127,10 @@ is_keyword w = is_plain_behind (behind_byte 58 w)
 -- The token that a word is. The three literals are no symbols.
 unfoldable pub word_token : List ℕ → Token
 word_token w =
-    if bytes_eq w (codes "nil") then Atom shape.Nil
-    else (if bytes_eq w (codes "true") then Atom (shape.Bool true)
-    else (if bytes_eq w (codes "false") then Atom (shape.Bool false)
+    if bytes_eq w (codes "nil") then Atom atom.Nil
+    else (if bytes_eq w (codes "true") then Atom (atom.Bool true)
+    else (if bytes_eq w (codes "false") then Atom (atom.Bool false)
     else (if is_integer w then integer_token (integer_value w)
-    else (if is_symbol w then Atom (shape.Symbol w)
-    else (if is_keyword w then Atom (shape.Keyword (drop 1 w))
+    else (if is_symbol w then Atom (atom.Symbol w)
+    else (if is_keyword w then Atom (atom.Keyword (drop 1 w))
     else Bad Unreadable)))))

@@ -5,7 +5,7 @@ use Rattle.clj_reader.specs.declared.token.Token.{Token}
 use Rattle.clj_reader.specs.declared.token.Token.TheVariants.{Atom, Bad}
 use Rattle.clj_reader.specs.declared.token.Flaw.TheVariants.{Unreadable}
 use Rattle.clj_reader.specs.declared.token.Lexeme.{Lexeme}
-use Rattle.clj_reader.specs.declared.form.Shape.TheVariants as shape
+use Rattle.clj_reader.specs.declared.token.Atom.TheVariants as atom
 use Rattle.clj_reader.specs.Places.{start, behind}
 use Rattle.clj_reader.specs.Spellings.{is_separator, is_bracket, bracket_token, is_word_byte, word_token, escaped}
 
@@ -50,7 +50,7 @@ tokens comment p (b ∷ bs) = if b == 10 then tokens between (behind b p) bs els
 tokens (word s w) p (b ∷ bs) = if is_word_byte b then tokens (word s (w ++ b ∷ [])) (behind b p) bs
     else lexeme s (word_token w) ∷ begun (λ standing. tokens standing (behind b p) bs) p b
 tokens (text s content) p (b ∷ bs) =
-    if b == 34 then lexeme s (Atom (shape.Text content)) ∷ tokens between (behind b p) bs
+    if b == 34 then lexeme s (Atom (atom.Text content)) ∷ tokens between (behind b p) bs
     else (if b == 92 then tokens (escape s content) (behind b p) bs
     else tokens (text s (content ++ b ∷ [])) (behind b p) bs)
 tokens (escape s content) p (b ∷ bs) = unescaped (λ standing. tokens standing (behind b p) bs) s content (escaped b)

@@ -1,13 +1,13 @@
 //! The forms of tokens, with the brackets that stand open.
-ghost use Rattle.std.specs.Prelude.{◌≡◌, [], reverse};
-ghost use Rattle.clj_reader.specs.Nests.{Gives, level_of, nested, nested_at_end, group};
+ghost use Rattle.std.specs.Prelude.{◌≡◌, [], ◌∷◌, ◌++◌, reverse};
+ghost use Rattle.clj_reader.specs.Nests.{Gives, level_of, nested, nested_at_end, group, level, form, shape_of};
 ghost use Rattle.clj_reader.specs.Refusals.{refusal};
 
 use crate::form::{Form, Forms, Shape};
 use crate::place::Place;
 use crate::refusal::{ReadFormsStop, ReadRefusal};
 use crate::series::Series;
-use crate::token::{Bracket, Lexeme, Token};
+use crate::token::{Atom, Bracket, Lexeme, Token};
 use std::alloc::Global;
 
 /// How many brackets may stand open.
@@ -45,6 +45,20 @@ fn group(bracket: Bracket, forms: Forms) -> Shape
     }
 }
 
+/// An atom as a shape.
+fn shape_of(atom: Atom) -> Shape
+    ensures { result ≡ shape_of atom }
+{
+    match atom {
+        Atom::Nil => Shape::Nil,
+        Atom::Bool(value) => Shape::Bool(value),
+        Atom::Int(value) => Shape::Int(value),
+        Atom::Text(name) => Shape::Text(name),
+        Atom::Keyword(name) => Shape::Keyword(name),
+        Atom::Symbol(name) => Shape::Symbol(name),
+    }
+}
+
 impl Nest {
     /// Nothing read.
     pub fn new(alloc: Global) -> Nest
@@ -66,7 +80,7 @@ impl Nest {
         match token {
             Token::Open(bracket) => self.open(alloc, place, bracket),
             Token::Close(bracket) => self.close(place, bracket),
-            Token::Atom(shape) => self.add(place, shape),
+            Token::Atom(atom) => self.add(place, shape_of(atom)),
             Token::Bad(flaw) => Err(refused(flaw.number(), place)),
         }
     }
@@ -117,9 +131,8 @@ impl Nest {
         Ok(Nest { opened, forms: all })
     }
 
-    #[tactic(auto, unfolding(crate::specs::Nests::nested))]
     fn add(self, place: Place, shape: Shape) -> Result<Nest, ReadFormsStop>
-        ensures { Gives level_of result (nested (reverse self.opened.items) self.forms place (Token.Atom shape)) }
+        ensures { Gives level_of result (Ok (level (reverse self.opened.items) (self.forms ++ form place shape ∷ []))) }
     {
         let Nest { opened, mut forms } = self;
         forms.push(Form { place, shape })?;

@@ -1,16 +1,16 @@
 //! The next token of a text.
 ghost use Rattle.std.specs.Prelude.{◌≡◌, ◌<◌, ◌≤◌, ℕ, List, length, slice_index, [], ◌∷◌, Some, IfOk, IfSome, IfNone, MatchOption, true, false};
 ghost use Rattle.clj_reader.specs.declared.place.Place.{Place};
-ghost use Rattle.clj_reader.specs.declared.token.Token.TheVariants.{Atom};
+ghost use Rattle.clj_reader.specs.declared.token.Atom.TheVariants as atom;
+ghost use Rattle.clj_reader.specs.declared.token.Token.TheVariants as token;
 ghost use Rattle.clj_reader.specs.Spellings.{is_separator, is_bracket, escaped};
 ghost use Rattle.clj_reader.specs.Tokens.{between, text, escape, lexeme, unreadable};
 ghost use Rattle.clj_reader.specs.Cursors.{Fits, Reads, tokens_at};
 
 use crate::bytes::{bracket_token, escaped, is_bracket};
 use crate::cursor::{Cursor, gap_end, step, word_end};
-use crate::form::Shape;
 use crate::name::Name;
-use crate::token::{Flaw, Lexeme, Token};
+use crate::token::{Atom, Flaw, Lexeme, Token};
 use crate::word::token_of_word;
 use std::alloc::{AllocError, Global};
 
@@ -148,11 +148,11 @@ fn escape_at(bytes: &[u8], cursor: Cursor) -> Option<u8>
 
 /// A text that is read.
 fn text_lexeme(start: Cursor, content: Vec<u8>) -> Lexeme
-    ensures { result ≡ lexeme start.place (Atom (Shape.Text content.items)) }
+    ensures { result ≡ lexeme start.place (token.Atom (atom.Text content.items)) }
 {
     Lexeme {
         place: start.place,
-        token: Token::Atom(Shape::Text(Name::from_bytes(content))),
+        token: Token::Atom(Atom::Text(Name::from_bytes(content))),
     }
 }
 

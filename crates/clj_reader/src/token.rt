@@ -1,7 +1,7 @@
 ghost use Rattle.std.specs.Prelude.{◌≡◌};
 ghost use Rattle.clj_reader.specs.Refusals.{same_bracket, flaw_number};
 
-use crate::form::Shape;
+use crate::name::Name;
 use crate::place::Place;
 
 /// The two kinds of bracket.
@@ -45,12 +45,23 @@ impl Flaw {
     }
 }
 
+/// A form without brackets.
+#[derive(Drop)]
+pub(crate) enum Atom {
+    Nil,
+    Bool(bool),
+    Int(i64),
+    Text(Name),
+    Keyword(Name),
+    Symbol(Name),
+}
+
 /// A token: a bracket, a form without brackets, or one that is refused.
 #[derive(Drop)]
 pub(crate) enum Token {
     Open(Bracket),
     Close(Bracket),
-    Atom(Shape),
+    Atom(Atom),
     Bad(Flaw),
 }
 

@@ -4,9 +4,8 @@ ghost use Rattle.std.specs.Option.{option_map};
 ghost use Rattle.clj_reader.specs.Spellings.{is_number, unsigned, is_negative, is_integer, decimal_from, integer_value, negative_of, is_plain, begins_with_digit, is_signed, behind_byte, is_plain_behind, is_reducers_symbol, is_symbol, is_keyword, word_token};
 
 use crate::bytes::{all_digits, all_in_symbol, begins_symbol, is_digit, is_sign};
-use crate::form::Shape;
 use crate::name::Name;
-use crate::token::{Flaw, Token};
+use crate::token::{Atom, Flaw, Token};
 use std::alloc::{AllocError, Global};
 
 /// 2 to the 63rd, and one more: past what any 64-bit integer has before its sign.
@@ -105,27 +104,27 @@ pub(crate) fn token_of_word(alloc: Global, word: &[u8]) -> Result<Token, AllocEr
     ensures { IfOk result (λ token. token ≡ word_token word.now) }
 {
     if word == b"nil".as_slice() {
-        return Ok(Token::Atom(Shape::Nil));
+        return Ok(Token::Atom(Atom::Nil));
     }
     if word == b"true".as_slice() {
-        return Ok(Token::Atom(Shape::Bool(true)));
+        return Ok(Token::Atom(Atom::Bool(true)));
     }
     if word == b"false".as_slice() {
-        return Ok(Token::Atom(Shape::Bool(false)));
+        return Ok(Token::Atom(Atom::Bool(false)));
     }
     if is_integer(word) {
         return Ok(match integer_value(word) {
-            Some(value) => Token::Atom(Shape::Int(value)),
+            Some(value) => Token::Atom(Atom::Int(value)),
             None => Token::Bad(Flaw::TooLarge),
         });
     }
     if is_symbol(word) {
         let name = Name::from_bytes(Vec::from_slice(alloc, word)?);
-        return Ok(Token::Atom(Shape::Symbol(name)));
+        return Ok(Token::Atom(Atom::Symbol(name)));
     }
     if is_keyword(word) {
         let name = Name::from_bytes(Vec::from_slice(alloc, &word[1..])?);
-        return Ok(Token::Atom(Shape::Keyword(name)));
+        return Ok(Token::Atom(Atom::Keyword(name)));
     }
     Ok(Token::Bad(Flaw::Unreadable))
 }
