@@ -57,13 +57,13 @@ marks_push (g ∷ forms) f = ap (λ (ms : List Mark). marks_of_form g ++ ms) (ma
 
 -- what stands, and how it is written
 
-abbrev bracket_of : Opening → Place × Bracket
+abbrev pub bracket_of : Opening → Place × Bracket
 bracket_of o = (o.place, o.bracket)
 
-abbrev brackets : List Opening → List (Place × Bracket)
+abbrev pub brackets : List Opening → List (Place × Bracket)
 brackets opened = map bracket_of opened
 
-abbrev written : List Opening → List Form → List Mark
+abbrev pub written : List Opening → List Form → List Mark
 written [] forms = marks forms
 written (o ∷ opened) forms = written opened o.before ++ mark o.place (Open o.bracket) ∷ marks forms
 
@@ -109,7 +109,7 @@ stands opened forms p (Bad flaw) = refl
 -- all tokens
 
 -- a pass's outcome: with forms, no token is refused and the forms are written as what stood and the tokens; else it is the first refusal
-abbrev Follows : List Opening → List Form → List Lexeme → Result (List Form) ReadRefusal → Type 0
+abbrev pub Follows : List Opening → List Form → List Lexeme → Result (List Form) ReadRefusal → Type 0
 Follows opened forms ls (Ok read) = (first_refusal (brackets opened) ls ≡ None) × (written opened forms ++ marks_of_tokens ls ≡ marks read)
 Follows opened forms ls (Err r) = first_refusal (brackets opened) ls ≡ Some r
 

@@ -1,5 +1,6 @@
 pub mod AssemblyLemmas
 pub mod NestLemmas
 pub mod NumberLemmas
+pub mod ScriptLemmas
 pub mod TokenLemmas
 pub mod UniqueLemmas

@@ -1,9 +1,11 @@
 -- Which bytes are a script, with which forms, and what is refused of all others.
-use Rattle.std.specs.Prelude.{◌≡◌, ℕ, List, [], length, take, nat_lt, if◌then◌else◌, Option, Some, None}
+use Rattle.std.specs.Prelude.{◌≡◌, ℕ, List, [], length, take, nat_lt, if◌then◌else◌, Option, Some, None, Result, Ok, Err}
 use Rattle.std.specs.Str.{is_utf8}
 use Rattle.std.specs.Str.Lossy.{utf8_valid_len}
 use Rattle.clj_reader.specs.declared.form.Form.{Form}
 use Rattle.clj_reader.specs.declared.refusal.ReadRefusal.{ReadRefusal}
+use Rattle.clj_reader.specs.declared.refusal.ReadFormsStop.{ReadFormsStop}
+use Rattle.clj_reader.specs.declared.refusal.ReadFormsStop.TheVariants.{Refused, Memory}
 use Rattle.clj_reader.specs.Places.{start, behind_all}
 use Rattle.clj_reader.specs.Tokens.{tokens_of}
 use Rattle.clj_reader.specs.Refusals.{refusal, first_refusal}
@@ -21,3 +23,9 @@ refusal_of bytes =
 pub record IsScript (bytes : List ℕ) (forms : List Form) : Type 0 where
   pub accepted : refusal_of bytes ≡ None
   pub written : marks_of_tokens (tokens_of bytes) ≡ marks forms
+
+-- An answer to bytes: their forms, or their refusal. Want of memory is free.
+abbrev pub IsAnswer : List ℕ → Result (List Form) ReadFormsStop → Type 0
+IsAnswer bytes (Ok forms) = IsScript bytes forms
+IsAnswer bytes (Err (Refused r)) = refusal_of bytes ≡ Some r
+IsAnswer bytes (Err Memory) = Unit {0}

@@ -4,9 +4,11 @@
 mod bytes;
 mod cursor;
 mod form;
+mod laws;
 mod name;
 mod nest;
 mod place;
+mod read;
 mod refusal;
 mod scan;
 mod series;
@@ -14,7 +16,9 @@ mod token;
 mod word;
 
 pub use form::{Form, Forms, Shape};
+pub use laws::{one_reading, script_unless_refused};
 pub use name::Name;
 pub use place::Place;
+pub use read::read_forms;
 pub use refusal::{ReadFormsStop, ReadRefusal};
 pub use series::Series;
