@@ -92,10 +92,12 @@ opens opened forms p b false e = rw (length-map opened bracket_of, e) refl
 
 closes : (o : Opening) (opened : List Opening) (forms : List Form) (p : Place) (b : Bracket) (t : Bool) → same_bracket b o.bracket ≡ t
     → Stands (o ∷ opened) forms p (Close b) (cond t (Ok (level opened (o.before ++ form o.place (group o.bracket forms) ∷ []))) (Err (refusal 2 p)))
-closes o opened forms p b true e = (rw e refl,
-    append_assoc (written opened o.before) (mark o.place (Open o.bracket) ∷ marks forms) (mark p (Close b) ∷ [])
-    ∙ ap (λ (c : Bracket). written opened o.before ++ (mark o.place (Open o.bracket) ∷ (marks forms ++ mark p (Close c) ∷ []))) (same_kind b o.bracket e)
-    ∙ sym (written_push opened o.before (form o.place (group o.bracket forms)) ∙ ap (λ (ms : List Mark). written opened o.before ++ ms) (group_marks o.bracket forms o.place)))
+closes o opened forms p b true e = (
+  rw e refl,
+  append_assoc (written opened o.before) (mark o.place (Open o.bracket) ∷ marks forms) (mark p (Close b) ∷ [])
+      ∙ ap (λ (c : Bracket). written opened o.before ++ (mark o.place (Open o.bracket) ∷ (marks forms ++ mark p (Close c) ∷ []))) (same_kind b o.bracket e)
+      ∙ sym (written_push opened o.before (form o.place (group o.bracket forms)) ∙ ap (λ (ms : List Mark). written opened o.before ++ ms) (group_marks o.bracket forms o.place)),
+)
 closes o opened forms p b false e = rw e refl
 
 stands : (opened : List Opening) (forms : List Form) (p : Place) (t : Token) → Stands opened forms p t (nested opened forms p t)
@@ -120,8 +122,10 @@ ends (o ∷ opened) forms = refl
 -- a token before the rest
 read : (opened : List Opening) (forms : List Form) (l : Lexeme) (ls : List Lexeme) (v : Level) (r : Result (List Form) ReadRefusal) → Stands opened forms l.place l.token (Ok v)
     → Follows v.opened v.forms ls r → Follows opened forms (l ∷ ls) r
-read opened forms l ls v (Ok all) h rest = (rw h.0 rest.0,
-    sym (append_assoc (written opened forms) (mark l.place l.token ∷ []) (marks_of_tokens ls)) ∙ ap (λ (ms : List Mark). ms ++ marks_of_tokens ls) h.1 ∙ rest.1)
+read opened forms l ls v (Ok all) h rest = (
+  rw h.0 rest.0,
+  sym (append_assoc (written opened forms) (mark l.place l.token ∷ []) (marks_of_tokens ls)) ∙ ap (λ (ms : List Mark). ms ++ marks_of_tokens ls) h.1 ∙ rest.1,
+)
 read opened forms l ls v (Err r) h rest = rw h.0 rest
 
 before_rest : (opened : List Opening) (forms : List Form) (l : Lexeme) (ls : List Lexeme) (r : Result Level ReadRefusal) → Stands opened forms l.place l.token r

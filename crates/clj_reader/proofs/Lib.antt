@@ -1,6 +1,7 @@
 pub mod AssemblyLemmas
 pub mod NestLemmas
 pub mod NumberLemmas
+pub mod PieceLemmas
 pub mod ScriptLemmas
 pub mod TokenLemmas
 pub mod UniqueLemmas

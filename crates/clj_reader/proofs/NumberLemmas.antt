@@ -14,8 +14,8 @@ pub decimal_from_capped : (cap n : ℕ) (ds : List ℕ) → min (decimal_from (m
 decimal_from_capped cap n ds = ⊎_elim
     (λ (h : n < cap). let e : min n cap ≡ n = omega arith in ap (λ m. min (decimal_from m ds) cap) e)
     (λ (h : cap ≤ n). let e : min n cap ≡ cap = omega arith in
-        let a : cap ≤ decimal_from (min n cap) ds = omega (arith, decimal_from_grows (min n cap) ds) in
-        let b : n ≤ decimal_from n ds = decimal_from_grows n ds in omega arith)
+    let a : cap ≤ decimal_from (min n cap) ds = omega (arith, decimal_from_grows (min n cap) ds) in
+    let b : n ≤ decimal_from n ds = decimal_from_grows n ds in omega arith)
     (cases_lt n cap)
 
 -- one more digit

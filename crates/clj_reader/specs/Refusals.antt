@@ -13,7 +13,6 @@ use Rattle.clj_reader.specs.declared.token.Lexeme.{Lexeme}
 use Rattle.clj_reader.specs.declared.refusal.ReadRefusal.{ReadRefusal}
 use Rattle.clj_reader.specs.Places.{start, behind_all}
 
-
 abbrev pub same_bracket : Bracket → Bracket → Bool
 same_bracket Round Round = true
 same_bracket Square Square = true

@@ -86,7 +86,10 @@ pub(crate) fn begins_symbol(byte: u8) -> bool
     ensures { result ≡ begins_symbol byte }
 {
     is_letter(byte)
-        || matches!(byte, b'*' | b'+' | b'!' | b'-' | b'_' | b'?' | b'<' | b'>' | b'=')
+        || matches!(
+            byte,
+            b'*' | b'+' | b'!' | b'-' | b'_' | b'?' | b'<' | b'>' | b'='
+        )
 }
 
 /// Whether a symbol may go on with a byte.

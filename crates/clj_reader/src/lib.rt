@@ -22,3 +22,6 @@ pub use place::Place;
 pub use read::read_forms;
 pub use refusal::{ReadFormsStop, ReadRefusal};
 pub use series::Series;
+
+#[cfg(test)]
+mod tests;
