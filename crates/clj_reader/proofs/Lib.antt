@@ -1,5 +1,6 @@
 pub mod AssemblyLemmas
 pub mod NestLemmas
+pub mod NestingLemmas
 pub mod NumberLemmas
 pub mod PieceLemmas
 pub mod PiecesOfText
