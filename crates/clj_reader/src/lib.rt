@@ -16,7 +16,7 @@ mod token;
 mod word;
 
 pub use form::{Form, Forms, Shape};
-pub use laws::{one_reading, script_unless_refused};
+pub use laws::{one_reading, one_refusal, script_or_refused};
 pub use name::Name;
 pub use place::Place;
 pub use read::read_forms;

@@ -6,7 +6,7 @@ ghost use Rattle.clj_reader.specs.declared.refusal.ReadRefusal.{ReadRefusal};
 ghost use Rattle.clj_reader.specs.Places.{start, behind_all};
 ghost use Rattle.clj_reader.specs.Tokens.{tokens_of};
 ghost use Rattle.clj_reader.specs.Nests.{Gives, assembled};
-ghost use Rattle.clj_reader.specs.Scripts.{IsScript, IsAnswer, refusal_of};
+ghost use Rattle.clj_reader.specs.Scripts.{IsScript, IsRefused, IsAnswer};
 
 use crate::cursor::{Cursor, behind};
 use crate::form::Forms;
@@ -34,15 +34,15 @@ pub fn read_forms(alloc: Global, bytes: &[u8]) -> Result<Forms, ReadFormsStop>
     // The script of some forms is read as these, unless memory runs out.
     ensures only { (forms : List Form) → IsScript bytes.now forms → Gives (λ read. read) result (Ok forms) }
     // What is refused has this refusal.
-    ensures refused { (r : ReadRefusal) → result ≡ Err (ReadFormsStop.Refused r) → refusal_of bytes.now ≡ Some r }
+    ensures refused { (r : ReadRefusal) → result ≡ Err (ReadFormsStop.Refused r) → IsRefused bytes.now r }
     // What has a refusal is refused so, unless memory runs out.
-    ensures refuses { (r : ReadRefusal) → refusal_of bytes.now ≡ Some r → Gives (λ read. read) result (Err r) }
+    ensures refuses { (r : ReadRefusal) → IsRefused bytes.now r → Gives (λ read. read) result (Err r) }
 {
     read_text(alloc, bytes)
 }
 
 /// The same, as one case for each answer.
-#[tactic(auto, unfolding(crate::specs::Scripts::refusal_of), using(crate::proofs::ScriptLemmas::answer_too_long, crate::proofs::ScriptLemmas::answer_not_utf8, crate::proofs::ScriptLemmas::answer_of_pass))]
+#[tactic(auto, using(crate::proofs::ScriptLemmas::answer_too_long, crate::proofs::ScriptLemmas::answer_not_utf8, crate::proofs::ScriptLemmas::answer_of_pass))]
 fn read_text(alloc: Global, bytes: &[u8]) -> Result<Forms, ReadFormsStop>
     ensures { IsAnswer bytes.now result }
 {
