@@ -1,6 +1,6 @@
 -- What a pass over tokens reads: no token is refused, and the forms are written as the tokens.
-use Rattle.std.proofs.Common.{◌≡◌, ℕ, ◌<◌, Bool, true, false, cond, List, [], ◌∷◌, ◌++◌, length, map, nat_lt, Option, Some, None, Result, Ok, Err, refl, sym, ◌∙◌, ap, MatchResult, rules}
-use Rattle.std.proofs.lemmas.List.{append-nil, append_assoc, map-append, length-map}
+use Rattle.std.proofs.Common.{◌≡◌, Bool, true, false, cond, List, [], ◌∷◌, ◌++◌, length, map, nat_lt, Some, None, Result, Ok, Err, refl, sym, ◌∙◌, ap}
+use Rattle.std.proofs.lemmas.List.{append-nil, append_assoc, length-map}
 use Rattle.clj_reader.specs.declared.place.Place.{Place}
 use Rattle.clj_reader.specs.declared.token.Token.{Token}
 use Rattle.clj_reader.specs.declared.token.Token.TheVariants.{Open, Close, Atom, Bad}
@@ -12,15 +12,15 @@ use Rattle.clj_reader.specs.declared.token.Lexeme.{Lexeme}
 use Rattle.clj_reader.specs.declared.nest.Opening.{Opening}
 use Rattle.clj_reader.specs.declared.form.Form.{Form}
 use Rattle.clj_reader.specs.declared.form.Shape.{Shape}
-use Rattle.clj_reader.specs.declared.form.Shape.TheOpen.{Shape-F, Form-F}
+use Rattle.clj_reader.specs.declared.form.Shape.TheOpen.{Shape-F}
 use Rattle.clj_reader.specs.declared.form.Shape.TheFolds as folds
 use Rattle.clj_reader.specs.declared.form.Shape.TheFolds.{fold-roll-Shape}
 use Rattle.clj_reader.specs.declared.form.Shape.TheViews as shapes
 use Rattle.clj_reader.specs.declared.form.Shape.TheVariants as shape
 use Rattle.clj_reader.specs.declared.form.Shape.TheVariants.{rolls-List, rolls-Vector}
 use Rattle.clj_reader.specs.declared.refusal.ReadRefusal.{ReadRefusal}
-use Rattle.clj_reader.specs.Refusals.{refusal, flaw_number, same_bracket, opened_behind, first_refusal, refusal_of_rest, refusal_at_end}
-use Rattle.clj_reader.specs.Marks.{Mark, mark, marks_of_tokens, joined, alone, bracketed, marks_of_level, marks_at_place, marks_of_shape, marks_of_form, marks}
+use Rattle.clj_reader.specs.Refusals.{refusal, same_bracket, opened_behind, first_refusal}
+use Rattle.clj_reader.specs.Marks.{Mark, mark, marks_of_tokens, alone, bracketed, marks_of_level, marks_at_place, marks_of_shape, marks_of_form, marks}
 use Rattle.clj_reader.specs.Nests.{form, shape_of, opening, group, Level, level, nested, nested_at_end, and_on, assembled}
 
 -- marks of forms

@@ -1,5 +1,5 @@
 -- No token is refused exactly where the brackets match and none is nested deeper than 200.
-use Rattle.std.proofs.Common.{◌≡◌, ℕ, suc, ◌+◌, ◌<◌, ◌≤◌, max, Bool, true, false, cond, ◌&&◌, nat_lt, nat_le, List, [], ◌∷◌, ◌++◌, length, map, Option, Some, None, Result, Ok, Err, refl, sym, ◌∙◌, ap, subst, arith}
+use Rattle.std.proofs.Common.{◌≡◌, ℕ, suc, ◌+◌, ◌<◌, ◌≤◌, max, Bool, true, false, cond, ◌&&◌, nat_lt, nat_le, List, [], ◌∷◌, ◌++◌, length, map, Option, Some, None, Ok, Err, refl, sym, ◌∙◌, ap, subst, arith}
 use Rattle.std.proofs.lemmas.Bool.Decides.{nat_tests}
 use Rattle.std.proofs.lemmas.List.{append-nil, append_assoc, length-map}
 use Rattle.clj_reader.specs.declared.place.Place.{Place}
@@ -12,15 +12,15 @@ use Rattle.clj_reader.specs.declared.token.Atom.TheVariants as atom
 use Rattle.clj_reader.specs.declared.token.Lexeme.{Lexeme}
 use Rattle.clj_reader.specs.declared.form.Form.{Form}
 use Rattle.clj_reader.specs.declared.form.Shape.{Shape}
-use Rattle.clj_reader.specs.declared.form.Shape.TheOpen.{Shape-F, Form-F}
+use Rattle.clj_reader.specs.declared.form.Shape.TheOpen.{Shape-F}
 use Rattle.clj_reader.specs.declared.form.Shape.TheFolds.{fold-roll-Shape, fold-roll-Form, ind-Form, map-Shape}
 use Rattle.clj_reader.specs.declared.form.Shape.TheViews.{roll-Shape, roll-Form}
 use Rattle.clj_reader.specs.declared.form.Shape.TheVariants as shape
 use Rattle.clj_reader.specs.declared.refusal.ReadRefusal.{ReadRefusal}
-use Rattle.clj_reader.specs.Refusals.{refusal, flaw_number, same_bracket, opened_behind, first_refusal, refusal_of_rest, refusal_at_end}
-use Rattle.clj_reader.specs.Marks.{Mark, mark, marks_of_tokens, bracketed, marks_of_form, marks_of_shape, marks}
+use Rattle.clj_reader.specs.Refusals.{refusal, same_bracket, opened_behind, first_refusal, refusal_of_rest, refusal_at_end}
+use Rattle.clj_reader.specs.Marks.{Mark, mark, marks_of_tokens, marks_of_form, marks}
 use Rattle.clj_reader.specs.Nests.{form, shape_of, group}
-use Rattle.clj_reader.specs.Nesting.{greatest, nesting_of_level, nesting_at_place, nesting_of_shape, nesting_of_form, nesting}
+use Rattle.clj_reader.specs.Nesting.{nesting_of_level, nesting_at_place, nesting_of_shape, nesting_of_form, nesting}
 use Rattle.clj_reader.proofs.AssemblyLemmas.{form_marks, atom_level, group_level}
 
 -- whether no mark is refused, where these brackets stand open before them

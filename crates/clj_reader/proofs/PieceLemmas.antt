@@ -1,5 +1,5 @@
 -- The tokens of a text are those of its pieces.
-use Rattle.std.proofs.Common.{◌≡◌, ◌≢◌, ℕ, ◌<◌, Bool, true, false, eqb, not, ◌&&◌, List, [], ◌∷◌, ◌++◌, length, map, Option, Some, None, refl, sym, ◌∙◌, ap, arith, subst}
+use Rattle.std.proofs.Common.{◌≡◌, ◌≢◌, ℕ, Bool, true, false, eqb, not, ◌&&◌, List, [], ◌∷◌, ◌++◌, map, refl, sym, ◌∙◌, ap, arith}
 use Rattle.std.proofs.lemmas.Bool.{ne_eqb}
 use Rattle.std.proofs.lemmas.Bool.Decides.{nat_tests}
 use Rattle.std.proofs.lemmas.List.{append-nil, append_assoc}
@@ -9,11 +9,11 @@ use Rattle.clj_reader.specs.declared.token.Lexeme.{Lexeme}
 use Rattle.clj_reader.specs.declared.token.Token.TheVariants.{Atom}
 use Rattle.clj_reader.specs.declared.token.Atom.TheVariants as atom
 use Rattle.clj_reader.specs.Places.{behind, behind_all}
-use Rattle.clj_reader.specs.Spellings.{is_separator, is_bracket, bracket_token, is_word_byte, word_token, escaped}
+use Rattle.clj_reader.specs.Spellings.{is_separator, is_bracket, is_word_byte, word_token}
 use Rattle.clj_reader.specs.Tokens as standing
 use Rattle.clj_reader.specs.Tokens.{Standing, tokens, lexeme, unreadable}
 use Rattle.clj_reader.specs.Pieces.{Item, Piece, plain, escape, separator, comment, bracket, word, text, broken, item_bytes, item_content, piece_bytes, piece_tokens, pieces_tokens, IsItem, EndsLine, EndsWord, Breaks, IsPiece, Spells}
-use Rattle.clj_reader.proofs.TokenLemmas.{eqb_at, separator_first, comment_first, bracket_first, quote_first, word_first, comment_first_more, comment_first_ends, comment_at_end, tokens_of_none, word_first_more, word_first_ends, word_at_end, text_at_end, escape_at_end, text_first_ends, text_first_escape, text_first_more, escape_first, escape_first_none}
+use Rattle.clj_reader.proofs.TokenLemmas.{separator_first, comment_first, bracket_first, quote_first, word_first, comment_first_more, comment_first_ends, comment_at_end, tokens_of_none, word_first_more, word_first_ends, word_at_end, text_at_end, escape_at_end, text_first_ends, text_first_escape, text_first_more, escape_first, escape_first_none}
 
 behind_append : (xs ys : List ℕ) (p : Place) → behind_all (xs ++ ys) p ≡ behind_all ys (behind_all xs p)
 behind_append [] ys p = refl

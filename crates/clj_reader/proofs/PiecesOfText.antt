@@ -1,10 +1,10 @@
 -- Every text is made of pieces.
-use Rattle.std.proofs.Common.{◌≡◌, ◌≢◌, ℕ, ◌<◌, ◌⊎◌, inl, inr, ⊎_elim, Bool, true, false, eqb, List, [], ◌∷◌, ◌++◌, length, Option, Some, None, refl, sym, ◌∙◌, ap, subst, arith}
+use Rattle.std.proofs.Common.{◌≡◌, ◌≢◌, ℕ, ◌⊎◌, inl, inr, ⊎_elim, Bool, true, false, eqb, List, [], ◌∷◌, ◌++◌, Option, Some, None, refl, sym, ◌∙◌, ap, subst, arith}
 use Rattle.std.proofs.lemmas.Bool.Decides.{eqb_tells}
 use Rattle.std.proofs.lemmas.List.{append-nil, append_assoc}
 use Rattle.std.specs.List.{AllByRecursion, flat_map}
 use Rattle.clj_reader.specs.Spellings.{is_separator, is_bracket, is_word_byte, escaped}
-use Rattle.clj_reader.specs.Pieces.{Item, Piece, plain, escape, separator, comment, bracket, word, text, broken, item_bytes, piece_bytes, IsItem, EndsLine, EndsWord, Breaks, IsPiece, Spells}
+use Rattle.clj_reader.specs.Pieces.{Item, Piece, plain, escape, separator, comment, bracket, word, text, broken, item_bytes, IsItem, EndsLine, EndsWord, Breaks, Spells}
 
 -- what a text is, from a place between pieces on
 abbrev pub Pieces : List ℕ → Type 0
@@ -107,10 +107,20 @@ words b bs k here true h = record { w = b ∷ k.word.w; rest = k.word.rest; part
 
 -- a character in front of a text
 with_item : (bs rest : List ℕ) (i : Item) → bs ≡ item_bytes i ++ rest → IsItem i → Text rest ⊎ Broken rest → Text bs ⊎ Broken bs
-with_item bs rest i e h (inl k) = inl (record { items = i ∷ k.items; rest = k.rest;
-    parts = e ∙ ap (λ (xs : List ℕ). item_bytes i ++ xs) k.parts ∙ sym (append_assoc (item_bytes i) (flat_map item_bytes k.items) (34 ∷ k.rest)); each = (h, k.each); pieces = k.pieces })
-with_item bs rest i e h (inr k) = inr (record { items = i ∷ k.items; tail = k.tail;
-    parts = e ∙ ap (λ (xs : List ℕ). item_bytes i ++ xs) k.parts ∙ sym (append_assoc (item_bytes i) (flat_map item_bytes k.items) k.tail); each = (h, k.each); breaks = k.breaks })
+with_item bs rest i e h (inl k) = inl (record {
+  items = i ∷ k.items;
+  rest = k.rest;
+  parts = e ∙ ap (λ (xs : List ℕ). item_bytes i ++ xs) k.parts ∙ sym (append_assoc (item_bytes i) (flat_map item_bytes k.items) (34 ∷ k.rest));
+  each = (h, k.each);
+  pieces = k.pieces;
+})
+with_item bs rest i e h (inr k) = inr (record {
+  items = i ∷ k.items;
+  tail = k.tail;
+  parts = e ∙ ap (λ (xs : List ℕ). item_bytes i ++ xs) k.parts ∙ sym (append_assoc (item_bytes i) (flat_map item_bytes k.items) k.tail);
+  each = (h, k.each);
+  breaks = k.breaks;
+})
 
 behind_backslash : (bs : List ℕ) → Escaped bs ⊎ Breaks (92 ∷ bs) → Text (92 ∷ bs) ⊎ Broken (92 ∷ bs)
 behind_backslash bs (inl k) = with_item (92 ∷ bs) k.rest (escape k.b k.c) (ap (λ (xs : List ℕ). 92 ∷ xs) k.parts) k.escapes k.goes
@@ -127,12 +137,12 @@ escapes b bs k None h = inr (refl, h)
 
 whole : (bytes : List ℕ) → Whole bytes
 whole [] = record {
-    pieces = ([], refl);
-    comment = record { line = []; rest = []; parts = refl; each = tt; ends = tt; pieces = ([], refl) };
-    word = record { w = []; rest = []; parts = refl; each = tt; ends = tt; pieces = ([], refl) };
-    text = inr (record { items = []; tail = []; parts = refl; each = tt; breaks = tt });
-    escape = inr refl;
-  }
+  pieces = ([], refl);
+  comment = record { line = []; rest = []; parts = refl; each = tt; ends = tt; pieces = ([], refl) };
+  word = record { w = []; rest = []; parts = refl; each = tt; ends = tt; pieces = ([], refl) };
+  text = inr (record { items = []; tail = []; parts = refl; each = tt; breaks = tt });
+  escape = inr refl;
+}
 whole (b ∷ bs) =
     let k : Whole bs = whole bs in
     let here : Pieces (b ∷ bs) = begins b bs k (is_separator b) (eqb b 59) (is_bracket b) (eqb b 34) refl refl refl refl in

@@ -1,5 +1,5 @@
 -- The tokens from a byte on, by the byte that stands there.
-use Rattle.std.proofs.Common.{◌≡◌, ◌≢◌, ℕ, ◌+◌, ◌-◌, ◌<◌, ◌≤◌, Bool, true, false, cond, eqb, List, [], ◌∷◌, ◌++◌, length, get_or, take, drop, refl, sym, ◌∙◌, ap, arith, Option, Some, None}
+use Rattle.std.proofs.Common.{◌≡◌, ◌≢◌, ℕ, ◌+◌, ◌-◌, ◌<◌, ◌≤◌, true, false, eqb, List, [], ◌∷◌, ◌++◌, length, get_or, take, drop, refl, sym, ◌∙◌, ap, arith, Some, None}
 use Rattle.std.proofs.lemmas.Bool.{ne_eqb}
 use Rattle.std.proofs.lemmas.Bool.Decides.{nat_tests}
 use Rattle.std.proofs.lemmas.List.{drop_more, take_more, drop_all, get_or-drop, length-drop}
@@ -9,7 +9,7 @@ use Rattle.clj_reader.specs.declared.token.Lexeme.{Lexeme}
 use Rattle.clj_reader.specs.declared.token.Atom.TheVariants as atom
 use Rattle.clj_reader.specs.Places.{behind}
 use Rattle.clj_reader.specs.Spellings.{is_separator, is_bracket, bracket_token, is_word_byte, word_token, escaped}
-use Rattle.clj_reader.specs.Tokens.{Standing, between, comment, word, text, escape, tokens, begun, unescaped, lexeme, unreadable}
+use Rattle.clj_reader.specs.Tokens.{Standing, between, comment, word, text, escape, tokens, lexeme, unreadable}
 
 at_byte : (bs : List ℕ) (i : ℕ) (p : Place) → i < length bs → (standing : Standing) → tokens standing p (drop i bs) ≡ tokens standing p (get_or bs i 0 ∷ drop (i + 1) bs)
 at_byte bs i p h standing = ap (tokens standing p) (drop_more bs i 0 h)

@@ -1,9 +1,9 @@
 -- Forms are known from the tokens that they are written as.
-use Rattle.std.proofs.Common.{◌≡◌, List, [], ◌∷◌, ◌++◌, map, Option, Some, None, refl, sym, ◌∙◌, ap, subst}
+use Rattle.std.proofs.Common.{◌≡◌, List, [], ◌∷◌, ◌++◌, map, Option, Some, refl, sym, ◌∙◌, ap, subst}
 use Rattle.std.proofs.lemmas.List.{append-nil, append_assoc}
 use Rattle.clj_reader.specs.declared.place.Place.{Place}
 use Rattle.clj_reader.specs.declared.token.Token.{Token}
-use Rattle.clj_reader.specs.declared.token.Token.TheVariants.{Open, Close, Atom, Bad}
+use Rattle.clj_reader.specs.declared.token.Token.TheVariants.{Open, Close, Atom}
 use Rattle.clj_reader.specs.declared.token.Bracket.{Bracket}
 use Rattle.clj_reader.specs.declared.token.Bracket.TheVariants.{Round, Square}
 use Rattle.clj_reader.specs.declared.token.Atom as atoms
@@ -11,11 +11,11 @@ use Rattle.clj_reader.specs.declared.token.Atom.TheVariants as atom
 use Rattle.clj_reader.specs.declared.nest.Opening.{Opening}
 use Rattle.clj_reader.specs.declared.form.Form.{Form}
 use Rattle.clj_reader.specs.declared.form.Shape.{Shape}
-use Rattle.clj_reader.specs.declared.form.Shape.TheOpen.{Shape-F, Form-F}
+use Rattle.clj_reader.specs.declared.form.Shape.TheOpen.{Shape-F}
 use Rattle.clj_reader.specs.declared.form.Shape.TheFolds.{ind-Form, map-Shape}
 use Rattle.clj_reader.specs.declared.form.Shape.TheViews.{roll-Shape, roll-Form}
 use Rattle.clj_reader.specs.declared.form.Shape.TheVariants as shape
-use Rattle.clj_reader.specs.Marks.{Mark, mark, bracketed, marks_of_shape, marks_of_form, marks}
+use Rattle.clj_reader.specs.Marks.{Mark, mark, marks_of_form, marks}
 use Rattle.clj_reader.specs.Nests.{form, shape_of, opening, group}
 use Rattle.clj_reader.proofs.AssemblyLemmas.{form_marks, atom_level, group_level}
 

@@ -1,5 +1,5 @@
 -- The forms of tokens by a plain pass over them, token by token.
-use Rattle.std.specs.Prelude.{◌≡◌, ℕ, List, [], ◌∷◌, ◌++◌, length, nat_lt, reverse, if◌then◌else◌, Result, Ok, Err}
+use Rattle.std.specs.Prelude.{◌≡◌, List, [], ◌∷◌, ◌++◌, length, nat_lt, reverse, if◌then◌else◌, Result, Ok, Err}
 use Rattle.clj_reader.specs.declared.place.Place.{Place}
 use Rattle.clj_reader.specs.declared.token.Token.{Token}
 use Rattle.clj_reader.specs.declared.token.Token.TheVariants.{Open, Close, Atom, Bad}

@@ -1,7 +1,5 @@
 -- Which texts are refused, for what, and where.
-use Rattle.std.specs.Prelude.{ℕ, ◌==◌, Bool, true, false, List, [], ◌∷◌, length, take, nat_lt, if◌then◌else◌, Option, Some, None, Result, Ok, Err}
-use Rattle.std.specs.Str.{is_utf8}
-use Rattle.std.specs.Str.Lossy.{utf8_valid_len}
+use Rattle.std.specs.Prelude.{ℕ, Bool, true, false, List, [], ◌∷◌, length, nat_lt, if◌then◌else◌, Option, Some, None, Result, Ok, Err}
 use Rattle.clj_reader.specs.declared.place.Place.{Place}
 use Rattle.clj_reader.specs.declared.token.Token.{Token}
 use Rattle.clj_reader.specs.declared.token.Token.TheVariants.{Open, Close, Atom, Bad}
@@ -11,7 +9,6 @@ use Rattle.clj_reader.specs.declared.token.Flaw.{Flaw}
 use Rattle.clj_reader.specs.declared.token.Flaw.TheVariants.{Unreadable, TooLarge}
 use Rattle.clj_reader.specs.declared.token.Lexeme.{Lexeme}
 use Rattle.clj_reader.specs.declared.refusal.ReadRefusal.{ReadRefusal}
-use Rattle.clj_reader.specs.Places.{start, behind_all}
 
 abbrev pub same_bracket : Bracket → Bracket → Bool
 same_bracket Round Round = true

@@ -1,5 +1,5 @@
 -- How the tokens of a script are spelled, byte by byte. A byte from 128 on stands in texts and comments alone.
-use Rattle.std.specs.Prelude.{ℕ, ◌+◌, ◌*◌, ◌-◌, ◌^◌, ◌==◌, Bool, true, false, not, ◌&&◌, ◌||◌, nat_le, nat_lt, List, [], ◌∷◌, drop, codes, if◌then◌else◌, Option, Some, None, MatchOption, pos, neg_ℤ, ℤ}
+use Rattle.std.specs.Prelude.{ℕ, ◌+◌, ◌*◌, ◌-◌, ◌^◌, ◌==◌, Bool, true, false, not, ◌&&◌, ◌||◌, nat_le, nat_lt, List, [], ◌∷◌, drop, codes, if◌then◌else◌, Option, Some, None, pos, neg_ℤ, ℤ}
 use Rattle.std.specs.List.{list_all}
 use Rattle.std.specs.Str.{bytes_eq}
 use Rattle.clj_reader.specs.declared.token.Token.{Token}

@@ -4,24 +4,24 @@ ghost use Rattle.clj_reader.specs.Spellings.{is_separator, is_bracket, bracket_t
 
 use crate::token::{Bracket, Token};
 
-#[tactic(auto, unfolding(crate::specs::Spellings::is_separator))]
 /// Whether a byte separates tokens.
+#[tactic(auto, unfolding(crate::specs::Spellings::is_separator))]
 pub(crate) fn is_separator(byte: u8) -> bool
     ensures { result ≡ is_separator byte }
 {
     matches!(byte, b' ' | b'\t' | b'\n' | 0x0c | b'\r' | b',')
 }
 
-#[tactic(auto, unfolding(crate::specs::Spellings::is_bracket))]
 /// Whether a byte is one of the four brackets.
+#[tactic(auto, unfolding(crate::specs::Spellings::is_bracket))]
 pub(crate) fn is_bracket(byte: u8) -> bool
     ensures { result ≡ is_bracket byte }
 {
     matches!(byte, b'(' | b')' | b'[' | b']')
 }
 
-#[tactic(auto, unfolding(crate::specs::Spellings::bracket_token))]
 /// The token that a bracket is.
+#[tactic(auto, unfolding(crate::specs::Spellings::bracket_token))]
 pub(crate) fn bracket_token(byte: u8) -> Token
     ensures { result ≡ bracket_token byte }
 {
@@ -33,16 +33,16 @@ pub(crate) fn bracket_token(byte: u8) -> Token
     }
 }
 
-#[tactic(auto, unfolding(crate::specs::Spellings::is_word_byte))]
 /// Whether a word goes on with a byte.
+#[tactic(auto, unfolding(crate::specs::Spellings::is_word_byte))]
 pub(crate) fn is_word_byte(byte: u8) -> bool
     ensures { result ≡ is_word_byte byte }
 {
     !is_separator(byte) && !is_bracket(byte) && byte != b'"' && byte != b';'
 }
 
-#[tactic(auto, unfolding(crate::specs::Spellings::escaped))]
 /// What `\` and a byte stand for in a text.
+#[tactic(auto, unfolding(crate::specs::Spellings::escaped))]
 pub(crate) fn escaped(byte: u8) -> Option<u8>
     ensures { result ≡ escaped byte }
 {

@@ -15,8 +15,8 @@ pub(crate) struct Cursor {
     pub place: Place,
 }
 
-#[tactic(auto, unfolding(crate::specs::Places::behind))]
 /// The place behind a byte.
+#[tactic(auto, unfolding(crate::specs::Places::behind))]
 pub(crate) fn behind(byte: u8, place: Place) -> Place
     requires line { place.line ≤ 1048577 }
     requires column { place.column ≤ 1048577 }
@@ -53,8 +53,8 @@ pub(crate) fn step(bytes: &[u8], from: Cursor) -> Cursor
     }
 }
 
-#[tactic(auto, using(crate::proofs::TokenLemmas::comment_more, crate::proofs::TokenLemmas::comment_ends, crate::proofs::TokenLemmas::comment_over))]
 /// The newline that ends a comment, or the end of the text.
+#[tactic(auto, using(crate::proofs::TokenLemmas::comment_more, crate::proofs::TokenLemmas::comment_ends, crate::proofs::TokenLemmas::comment_over))]
 fn comment_end(bytes: &[u8], from: Cursor) -> Cursor
     requires { Fits bytes.now from }
     ensures fits { Fits bytes.now result }
@@ -68,8 +68,8 @@ fn comment_end(bytes: &[u8], from: Cursor) -> Cursor
     cursor
 }
 
-#[tactic(auto, using(crate::proofs::TokenLemmas::separator_more, crate::proofs::TokenLemmas::comment_begins))]
 /// The first byte of the next token, or the end of the text.
+#[tactic(auto, using(crate::proofs::TokenLemmas::separator_more, crate::proofs::TokenLemmas::comment_begins))]
 pub(crate) fn gap_end(bytes: &[u8], from: Cursor) -> Cursor
     requires { Fits bytes.now from }
     ensures fits { Fits bytes.now result }
@@ -92,8 +92,8 @@ pub(crate) fn gap_end(bytes: &[u8], from: Cursor) -> Cursor
     cursor
 }
 
-#[tactic(auto, using(crate::proofs::TokenLemmas::word_more, crate::proofs::TokenLemmas::word_ends, crate::proofs::TokenLemmas::word_over))]
 /// Where a word ends that began at a cursor, and has one byte at least.
+#[tactic(auto, using(crate::proofs::TokenLemmas::word_more, crate::proofs::TokenLemmas::word_ends, crate::proofs::TokenLemmas::word_over))]
 pub(crate) fn word_end(bytes: &[u8], start: Cursor, from: Cursor) -> Cursor
     requires fits { Fits bytes.now from }
     requires later { start.at < from.at }

@@ -24,7 +24,7 @@ impl Name {
         Name { bytes }
     }
 
-    /// Its bytes, which are UTF-8 where a script was read.
+    /// Its bytes.
     pub fn bytes(&self) -> &[u8]
         ensures { result.now ≡ self.now }
     {

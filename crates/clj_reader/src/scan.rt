@@ -14,8 +14,8 @@ use crate::token::{Atom, Flaw, Lexeme, Token};
 use crate::word::token_of_word;
 use std::alloc::{AllocError, Global};
 
-#[tactic(auto, using(crate::proofs::TokenLemmas::nothing_over))]
 /// The token at or behind a place between tokens, and where it ends. `None` where none comes.
+#[tactic(auto, using(crate::proofs::TokenLemmas::nothing_over))]
 pub(crate) fn next_token(
     alloc: Global,
     bytes: &[u8],
@@ -84,8 +84,8 @@ fn word(alloc: Global, bytes: &[u8], start: Cursor) -> Result<(Lexeme, Cursor), 
     Ok((lexeme, end))
 }
 
-#[tactic(auto, using(crate::proofs::TokenLemmas::quote_begins))]
 /// The text whose opening quote stands at a cursor.
+#[tactic(auto, using(crate::proofs::TokenLemmas::quote_begins))]
 fn text(alloc: Global, bytes: &[u8], start: Cursor) -> Result<(Lexeme, Cursor), AllocError>
     requires fits { Fits bytes.now start }
     requires more { start.at < length bytes.now }
@@ -98,8 +98,8 @@ fn text(alloc: Global, bytes: &[u8], start: Cursor) -> Result<(Lexeme, Cursor), 
     content(alloc, bytes, start, step(bytes, start))
 }
 
-#[tactic(auto, using(crate::proofs::TokenLemmas::text_over, crate::proofs::TokenLemmas::text_ends, crate::proofs::TokenLemmas::text_escape, crate::proofs::TokenLemmas::text_more, crate::proofs::TokenLemmas::escape_over, crate::proofs::TokenLemmas::escape_more, crate::proofs::TokenLemmas::escape_none))]
 /// The text that began at `start`, from behind its opening quote.
+#[tactic(auto, using(crate::proofs::TokenLemmas::text_over, crate::proofs::TokenLemmas::text_ends, crate::proofs::TokenLemmas::text_escape, crate::proofs::TokenLemmas::text_more, crate::proofs::TokenLemmas::escape_over, crate::proofs::TokenLemmas::escape_more, crate::proofs::TokenLemmas::escape_none))]
 fn content(
     alloc: Global,
     bytes: &[u8],
@@ -133,8 +133,8 @@ fn content(
     Ok(unreadable_text(bytes, start, cursor))
 }
 
-#[tactic(auto, using(crate::proofs::TokenLemmas::escape_over, crate::proofs::TokenLemmas::escape_none))]
 /// What the escape stands for whose character is next, and `None` where it is none.
+#[tactic(auto, using(crate::proofs::TokenLemmas::escape_over, crate::proofs::TokenLemmas::escape_none))]
 fn escape_at(bytes: &[u8], cursor: Cursor) -> Option<u8>
     ensures some { IfSome result (λ c. (cursor.at < length bytes.now) × (escaped (slice_index bytes.now cursor.at) ≡ Some c)) }
     ensures none { IfNone result ((s : Place) (content : List ℕ) → tokens_at (escape s content) bytes.now cursor ≡ unreadable s ∷ []) }
@@ -156,8 +156,8 @@ fn text_lexeme(start: Cursor, content: Vec<u8>) -> Lexeme
     }
 }
 
-#[tactic(auto, using(crate::proofs::TokenLemmas::nothing_over))]
 /// A text that is refused. Nothing behind it is read, so it ends with the bytes.
+#[tactic(auto, using(crate::proofs::TokenLemmas::nothing_over))]
 fn unreadable_text(bytes: &[u8], start: Cursor, cursor: Cursor) -> (Lexeme, Cursor)
     requires { Fits bytes.now cursor }
     ensures fits { Fits bytes.now result.1 }

@@ -1,4 +1,4 @@
-ghost use Rattle.std.specs.Prelude.{◌≡◌, [], ◌∷◌, ◌++◌, length, slice_get, is_ok, cond};
+ghost use Rattle.std.specs.Prelude.{◌≡◌, ◌<◌, ◌↔◌, [], ◌∷◌, ◌++◌, length, slice_get, is_ok, cond, IsSome};
 ghost use Rattle.std.specs.Option.{option_copied};
 
 use std::alloc::{AllocError, Global};
@@ -40,7 +40,8 @@ impl<T> Series<T> {
 
     /// The item at a place from 0, and `None` exactly where the place isn't below the length.
     pub fn get(&self, at: usize) -> Option<&T>
-        ensures { option_copied result ≡ slice_get self.now at }
+        ensures item { option_copied result ≡ slice_get self.now at }
+        ensures exactly { IsSome result ↔ (at < length self.now) }
     {
         self.items.get(at)
     }

@@ -98,8 +98,8 @@ fn is_keyword(word: &[u8]) -> bool
     }
 }
 
-#[tactic(auto, unfolding(crate::specs::Spellings::word_token))]
 /// The token that a word is.
+#[tactic(auto, unfolding(crate::specs::Spellings::word_token))]
 pub(crate) fn token_of_word(alloc: Global, word: &[u8]) -> Result<Token, AllocError>
     ensures { IfOk result (λ token. token ≡ word_token word.now) }
 {
@@ -156,8 +156,8 @@ fn negated(magnitude: u64) -> Option<i64>
     }
 }
 
-#[tactic(auto, using(crate::proofs::NumberLemmas::decimal_from_more))]
 /// What digits stand for, or `PAST_64_BITS` where that is less.
+#[tactic(auto, using(crate::proofs::NumberLemmas::decimal_from_more))]
 fn magnitude(digits: &[u8]) -> u64
     ensures { result ≡ min (decimal_from 0 digits.now) 9223372036854775809 }
 {
