@@ -188,13 +188,16 @@ with_proofs (f ∷ fs) = ap (λ (gs : List Form). f ∷ gs) (with_proofs fs)
 shallow : (n : ℕ) → (nat_le (n + 0) 200 && true) ≡ nat_le n 200
 shallow n = grind (arith, nat_tests)
 
+none_is_short : 0 ≤ 200
+none_is_short = omega arith
+
 fine_of_marks : (fs : List Form) → fine [] (marks fs) ≡ nat_le (nesting fs) 200
 fine_of_marks fs =
     let es = map (λ (f : Form). (f, fits f)) fs in
     let inner = map (λ (e : (f : Form) × Fits f). e.0) es in
     ap (λ (gs : List Form). fine [] (marks gs)) (sym (with_proofs fs))
     ∙ ap (fine []) (sym (append-nil (marks inner)))
-    ∙ all_fit es [] [] (omega arith)
+    ∙ all_fit es [] [] none_is_short
     ∙ shallow (nesting inner)
     ∙ ap (λ (gs : List Form). nat_le (nesting gs) 200) (with_proofs fs)
 

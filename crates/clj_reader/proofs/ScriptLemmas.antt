@@ -96,12 +96,12 @@ script_or_refused bytes = ⊎_elim (λ (h : 1048576 < length bytes). inr (refusa
 
 -- both sides of an answer
 
-pub answers_script : (bytes : List ℕ) (result : Result (List Form) ReadFormsStop) → IsAnswer bytes result → (forms : List Form) → IsScript bytes forms → Gives (λ (fs : List Form). fs) result (Ok forms)
-answers_script bytes (Ok read) h forms script = ap (λ (fs : List Form). Ok fs) (one_script bytes forms read script h)
-answers_script bytes (Err Memory) h forms script = tt
+pub answers_script : (bytes : List ℕ) (result : Result (List Form) ReadFormsStop) → IsAnswer bytes result → (forms : List Form) → IsScript bytes forms → (result ≡ Ok forms) ⊎ (result ≡ Err Memory)
+answers_script bytes (Ok read) h forms script = inl (ap (λ (fs : List Form). Ok fs) (one_script bytes read forms h script))
+answers_script bytes (Err Memory) h forms script = inr refl
 answers_script bytes (Err (Refused r)) h forms script = absurd (never_both bytes forms r script h)
 
-pub answers_refusal : (bytes : List ℕ) (result : Result (List Form) ReadFormsStop) → IsAnswer bytes result → (r : ReadRefusal) → IsRefused bytes r → Gives (λ (fs : List Form). fs) result (Err r)
+pub answers_refusal : (bytes : List ℕ) (result : Result (List Form) ReadFormsStop) → IsAnswer bytes result → (r : ReadRefusal) → IsRefused bytes r → (result ≡ Err (Refused r)) ⊎ (result ≡ Err Memory)
 answers_refusal bytes (Ok read) h r refused = absurd (never_both bytes read r h refused)
-answers_refusal bytes (Err Memory) h r refused = tt
-answers_refusal bytes (Err (Refused q)) h r refused = ap (λ (x : ReadRefusal). Err x) (one_refusal bytes r q refused h)
+answers_refusal bytes (Err Memory) h r refused = inr refl
+answers_refusal bytes (Err (Refused q)) h r refused = inl (ap (λ (x : ReadRefusal). Err (Refused x)) (one_refusal bytes q r h refused))

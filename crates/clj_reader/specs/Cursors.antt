@@ -1,4 +1,4 @@
--- Where a reading of bytes stands.
+-- Where the code's reading of bytes stands.
 use Rattle.std.specs.Prelude.{◌≡◌, ℕ, ◌+◌, ◌<◌, ◌≤◌, List, ◌∷◌, length, drop}
 use Rattle.clj_reader.specs.declared.cursor.Cursor.{Cursor}
 use Rattle.clj_reader.specs.declared.token.Lexeme.{Lexeme}

@@ -1,4 +1,4 @@
--- The forms of tokens by a plain pass over them, token by token.
+-- The forms of tokens by a plain pass over them, token by token. The code is proved by it.
 use Rattle.std.specs.Prelude.{◌≡◌, List, [], ◌∷◌, ◌++◌, length, nat_lt, reverse, if◌then◌else◌, Result, Ok, Err}
 use Rattle.clj_reader.specs.declared.place.Place.{Place}
 use Rattle.clj_reader.specs.declared.token.Token.{Token}

@@ -1,4 +1,5 @@
--- A text as pieces, end to end: separators, comments, brackets, words and texts.
+-- A text as pieces, end to end: separators, comments, brackets, words and texts. They follow Clojure's reader
+-- (https://clojure.org/reference/reader), without its dispatch characters, quotes, braces and characters.
 use Rattle.std.specs.Prelude.{◌≡◌, ◌≢◌, ℕ, ◌<◌, true, false, List, [], ◌∷◌, ◌++◌, length, map, Some, None}
 use Rattle.std.specs.List.{AllByRecursion, flat_map}
 use Rattle.clj_reader.specs.declared.place.Place.{Place}

@@ -1,4 +1,6 @@
 -- How the tokens of a script are spelled, byte by byte. A byte from 128 on stands in texts and comments alone.
+-- They are a part of those of Clojure's reader (https://clojure.org/reference/reader, "Reader forms"): decimal integers of
+-- 64 bits, symbols of ASCII with `r/` as the one namespace, keywords without a namespace, and five escapes.
 use Rattle.std.specs.Prelude.{ℕ, ◌+◌, ◌*◌, ◌-◌, ◌^◌, ◌==◌, Bool, true, false, not, ◌&&◌, ◌||◌, nat_le, nat_lt, List, [], ◌∷◌, drop, codes, if◌then◌else◌, Option, Some, None, pos, neg_ℤ, ℤ}
 use Rattle.std.specs.List.{list_all}
 use Rattle.std.specs.Str.{bytes_eq}

@@ -1,4 +1,5 @@
--- The tokens of a text, from left to right, each with the place at which it begins.
+-- The tokens of a text by one pass over its bytes, each with the place at which it begins. The code is proved by it; they
+-- are those of the text's pieces.
 use Rattle.std.specs.Prelude.{ℕ, ◌==◌, Option, Some, None, List, [], ◌∷◌, ◌++◌, if◌then◌else◌}
 use Rattle.clj_reader.specs.declared.place.Place.{Place}
 use Rattle.clj_reader.specs.declared.token.Token.{Token}

@@ -56,6 +56,7 @@ pub(crate) fn escaped(byte: u8) -> Option<u8>
     }
 }
 
+/// Whether a byte is a decimal digit.
 pub(crate) fn is_digit(byte: u8) -> bool
     ensures { result ≡ is_digit byte }
 {
@@ -69,12 +70,14 @@ pub(crate) fn is_sign(byte: u8) -> bool
     byte == b'+' || byte == b'-'
 }
 
+/// Whether each byte is a decimal digit.
 pub(crate) fn all_digits(bytes: &[u8]) -> bool
     ensures { result ≡ all_digits bytes.now }
 {
     bytes.iter().all(|byte| is_digit(*byte))
 }
 
+/// Whether a byte is a letter of ASCII.
 fn is_letter(byte: u8) -> bool
     ensures { result ≡ is_letter byte }
 {
@@ -99,6 +102,7 @@ fn in_symbol(byte: u8) -> bool
     begins_symbol(byte) || is_digit(byte) || byte == b'\''
 }
 
+/// Whether a symbol may go on with each byte.
 pub(crate) fn all_in_symbol(bytes: &[u8]) -> bool
     ensures { result ≡ all_in_symbol bytes.now }
 {

@@ -49,6 +49,7 @@ fn token_at(alloc: Global, bytes: &[u8], start: Cursor) -> Result<(Lexeme, Curso
     word(alloc, bytes, start)
 }
 
+/// The bracket at a cursor.
 #[tactic(auto, using(crate::proofs::TokenLemmas::bracket_begins))]
 fn bracket(bytes: &[u8], start: Cursor) -> (Lexeme, Cursor)
     requires fits { Fits bytes.now start }
@@ -65,6 +66,7 @@ fn bracket(bytes: &[u8], start: Cursor) -> (Lexeme, Cursor)
     (lexeme, step(bytes, start))
 }
 
+/// The word that begins at a cursor.
 #[tactic(auto, using(crate::proofs::TokenLemmas::word_begins, crate::proofs::TokenLemmas::word_ends, crate::proofs::TokenLemmas::word_over))]
 fn word(alloc: Global, bytes: &[u8], start: Cursor) -> Result<(Lexeme, Cursor), AllocError>
     requires fits { Fits bytes.now start }

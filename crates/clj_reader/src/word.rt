@@ -37,6 +37,7 @@ fn unsigned(word: &[u8]) -> &[u8]
     }
 }
 
+/// Whether a word begins with `-`.
 fn is_negative(word: &[u8]) -> bool
     ensures { result ≡ is_negative word.now }
 {
@@ -83,12 +84,14 @@ fn is_reducers_symbol(word: &[u8]) -> bool
     }
 }
 
+/// Whether a word is a symbol.
 fn is_symbol(word: &[u8]) -> bool
     ensures { result ≡ is_symbol word.now }
 {
     (is_plain(word) && !is_signed(word)) || is_reducers_symbol(word)
 }
 
+/// Whether a word is `:` and a plain symbol.
 fn is_keyword(word: &[u8]) -> bool
     ensures { result ≡ is_keyword word.now }
 {
