@@ -9,9 +9,9 @@ use Rattle.clj_reader.specs.declared.token.Lexeme.{Lexeme}
 use Rattle.clj_reader.specs.declared.token.Token.TheVariants.{Atom}
 use Rattle.clj_reader.specs.declared.token.Atom.TheVariants as atom
 use Rattle.clj_reader.specs.Places.{behind, behind_all}
-use Rattle.clj_reader.specs.Spellings.{is_separator, is_bracket, is_word_byte, word_token}
+use Rattle.clj_reader.specs.Spellings.{is_separator, is_bracket, is_word_byte, word_token, lexeme, unreadable}
 use Rattle.clj_reader.specs.Tokens as standing
-use Rattle.clj_reader.specs.Tokens.{Standing, tokens, lexeme, unreadable}
+use Rattle.clj_reader.specs.Tokens.{Standing, tokens}
 use Rattle.clj_reader.specs.Pieces.{Item, Piece, plain, escape, separator, comment, bracket, word, text, broken, item_bytes, item_content, piece_bytes, piece_tokens, pieces_tokens, IsItem, EndsLine, EndsWord, Breaks, IsPiece, Spells}
 use Rattle.clj_reader.proofs.TokenLemmas.{separator_first, comment_first, bracket_first, quote_first, word_first, comment_first_more, comment_first_ends, comment_at_end, tokens_of_none, word_first_more, word_first_ends, word_at_end, text_at_end, escape_at_end, text_first_ends, text_first_escape, text_first_more, escape_first, escape_first_none}
 

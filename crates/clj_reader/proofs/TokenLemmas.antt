@@ -8,8 +8,8 @@ use Rattle.clj_reader.specs.declared.token.Token.TheVariants.{Atom}
 use Rattle.clj_reader.specs.declared.token.Lexeme.{Lexeme}
 use Rattle.clj_reader.specs.declared.token.Atom.TheVariants as atom
 use Rattle.clj_reader.specs.Places.{behind}
-use Rattle.clj_reader.specs.Spellings.{is_separator, is_bracket, bracket_token, is_word_byte, word_token, escaped}
-use Rattle.clj_reader.specs.Tokens.{Standing, between, comment, word, text, escape, tokens, lexeme, unreadable}
+use Rattle.clj_reader.specs.Spellings.{is_separator, is_bracket, bracket_token, is_word_byte, word_token, escaped, lexeme, unreadable}
+use Rattle.clj_reader.specs.Tokens.{Standing, between, comment, word, text, escape, tokens}
 
 at_byte : (bs : List ℕ) (i : ℕ) (p : Place) → i < length bs → (standing : Standing) → tokens standing p (drop i bs) ≡ tokens standing p (get_or bs i 0 ∷ drop (i + 1) bs)
 at_byte bs i p h standing = ap (tokens standing p) (drop_more bs i 0 h)

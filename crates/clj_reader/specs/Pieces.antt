@@ -7,8 +7,7 @@ use Rattle.clj_reader.specs.declared.token.Lexeme.{Lexeme}
 use Rattle.clj_reader.specs.declared.token.Token.TheVariants.{Atom}
 use Rattle.clj_reader.specs.declared.token.Atom.TheVariants as atom
 use Rattle.clj_reader.specs.Places.{behind_all}
-use Rattle.clj_reader.specs.Spellings.{is_separator, is_bracket, bracket_token, is_word_byte, word_token, escaped}
-use Rattle.clj_reader.specs.Tokens.{lexeme, unreadable}
+use Rattle.clj_reader.specs.Spellings.{is_separator, is_bracket, bracket_token, is_word_byte, word_token, escaped, lexeme, unreadable}
 
 -- in a text: a byte that stands for itself, or `\` and a byte, with what they stand for
 pub data Item : Type 0 where

@@ -4,6 +4,8 @@
 use Rattle.std.specs.Prelude.{ℕ, ◌+◌, ◌*◌, ◌-◌, ◌^◌, ◌==◌, Bool, true, false, not, ◌&&◌, ◌||◌, nat_le, nat_lt, List, [], ◌∷◌, drop, codes, if◌then◌else◌, Option, Some, None, pos, neg_ℤ, ℤ}
 use Rattle.std.specs.List.{list_all}
 use Rattle.std.specs.Str.{bytes_eq}
+use Rattle.clj_reader.specs.declared.place.Place.{Place}
+use Rattle.clj_reader.specs.declared.token.Lexeme.{Lexeme}
 use Rattle.clj_reader.specs.declared.token.Token.{Token}
 use Rattle.clj_reader.specs.declared.token.Token.TheVariants.{Open, Close, Atom, Bad}
 use Rattle.clj_reader.specs.declared.token.Bracket.TheVariants.{Round, Square}
@@ -136,3 +138,10 @@ word_token w =
     else (if is_symbol w then Atom (atom.Symbol w)
     else (if is_keyword w then Atom (atom.Keyword (drop 1 w))
     else Bad Unreadable)))))
+
+-- a token at a place, and one there that is spelled as none
+abbrev pub lexeme : Place → Token → Lexeme
+lexeme place token = record { place = place; token = token }
+
+abbrev pub unreadable : Place → Lexeme
+unreadable place = lexeme place (Bad Unreadable)

@@ -2,13 +2,11 @@
 -- are those of the text's pieces.
 use Rattle.std.specs.Prelude.{ℕ, ◌==◌, Option, Some, None, List, [], ◌∷◌, ◌++◌, if◌then◌else◌}
 use Rattle.clj_reader.specs.declared.place.Place.{Place}
-use Rattle.clj_reader.specs.declared.token.Token.{Token}
-use Rattle.clj_reader.specs.declared.token.Token.TheVariants.{Atom, Bad}
-use Rattle.clj_reader.specs.declared.token.Flaw.TheVariants.{Unreadable}
+use Rattle.clj_reader.specs.declared.token.Token.TheVariants.{Atom}
 use Rattle.clj_reader.specs.declared.token.Lexeme.{Lexeme}
 use Rattle.clj_reader.specs.declared.token.Atom.TheVariants as atom
 use Rattle.clj_reader.specs.Places.{start, behind}
-use Rattle.clj_reader.specs.Spellings.{is_separator, is_bracket, bracket_token, is_word_byte, word_token, escaped}
+use Rattle.clj_reader.specs.Spellings.{is_separator, is_bracket, bracket_token, is_word_byte, word_token, escaped, lexeme, unreadable}
 
 -- Between two bytes a text stands between tokens, in a comment, in a word that began at a place, with its bytes so far,
 -- in a text that began at a place, with its content so far, or behind a `\` in such a text.
@@ -18,12 +16,6 @@ pub data Standing : Type 0 where
   word : Place → List ℕ → Standing
   text : Place → List ℕ → Standing
   escape : Place → List ℕ → Standing
-
-abbrev pub lexeme : Place → Token → Lexeme
-lexeme place token = record { place = place; token = token }
-
-abbrev pub unreadable : Place → Lexeme
-unreadable place = lexeme place (Bad Unreadable)
 
 -- what a byte between tokens begins at its place; go are the tokens after it
 abbrev pub begun : (Standing → List Lexeme) → Place → ℕ → List Lexeme

@@ -3,8 +3,8 @@ ghost use Rattle.std.specs.Prelude.{◌≡◌, ◌<◌, ◌≤◌, ℕ, List, le
 ghost use Rattle.clj_reader.specs.declared.place.Place.{Place};
 ghost use Rattle.clj_reader.specs.declared.token.Atom.TheVariants as atom;
 ghost use Rattle.clj_reader.specs.declared.token.Token.TheVariants as token;
-ghost use Rattle.clj_reader.specs.Spellings.{is_separator, is_bracket, escaped};
-ghost use Rattle.clj_reader.specs.Tokens.{between, text, escape, lexeme, unreadable};
+ghost use Rattle.clj_reader.specs.Spellings.{is_separator, is_bracket, escaped, lexeme, unreadable};
+ghost use Rattle.clj_reader.specs.Tokens.{between, text, escape};
 ghost use Rattle.clj_reader.specs.Cursors.{Fits, Reads, tokens_at};
 
 use crate::bytes::{bracket_token, escaped, is_bracket};
