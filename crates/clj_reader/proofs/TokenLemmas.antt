@@ -176,3 +176,13 @@ escape_first_none s p content b bs e = rw e refl
 
 pub escape_none : (bs : List ℕ) (i : ℕ) (s p : Place) (content : List ℕ) → i < length bs → escaped (get_or bs i 0) ≡ None → tokens (escape s content) p (drop i bs) ≡ unreadable s ∷ []
 escape_none bs i s p content h e = at_byte bs i p h (escape s content) ∙ escape_first_none s p content (get_or bs i 0) (drop (i + 1) bs) e
+
+-- the steps of each of the code's loops
+
+pub ruleset comment_steps = (comment_more, comment_ends, comment_over)
+
+pub ruleset gap_steps = (separator_more, comment_begins)
+
+pub ruleset word_steps = (word_begins, word_more, word_ends, word_over)
+
+pub ruleset text_steps = (text_over, text_ends, text_escape, text_more, escape_over, escape_more, escape_none)

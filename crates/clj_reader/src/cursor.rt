@@ -1,9 +1,9 @@
 //! A cursor over the bytes of a text, and the ends of gaps and words.
-ghost use Rattle.std.specs.Prelude.{◌≡◌, ◌+◌, ◌-◌, ◌<◌, ◌≤◌, length, slice_index, take, drop, false, true};
-ghost use Rattle.clj_reader.specs.Places.{behind, continues};
+ghost use Rattle.std.specs.Prelude.{◌≡◌, ◌+◌, ◌<◌, ◌≤◌, length, slice_index, false};
+ghost use Rattle.clj_reader.specs.Places.{behind};
 ghost use Rattle.clj_reader.specs.Spellings.{is_separator, is_word_byte};
-ghost use Rattle.clj_reader.specs.Tokens.{between, comment, word, tokens};
-ghost use Rattle.clj_reader.specs.Cursors.{Fits, tokens_at};
+ghost use Rattle.clj_reader.specs.Tokens.{between, comment};
+ghost use Rattle.clj_reader.specs.Cursors.{Fits, in_word, tokens_at};
 
 use crate::bytes::{is_separator, is_word_byte};
 use crate::place::Place;
@@ -54,7 +54,7 @@ pub(crate) fn step(bytes: &[u8], from: Cursor) -> Cursor
 }
 
 /// The newline that ends a comment, or the end of the text.
-#[tactic(auto, using(crate::proofs::TokenLemmas::comment_more, crate::proofs::TokenLemmas::comment_ends, crate::proofs::TokenLemmas::comment_over))]
+#[tactic(auto, using(crate::proofs::TokenLemmas::comment_steps))]
 fn comment_end(bytes: &[u8], from: Cursor) -> Cursor
     requires { Fits bytes.now from }
     ensures fits { Fits bytes.now result }
@@ -69,13 +69,14 @@ fn comment_end(bytes: &[u8], from: Cursor) -> Cursor
 }
 
 /// The first byte of the next token, or the end of the text.
-#[tactic(auto, using(crate::proofs::TokenLemmas::separator_more, crate::proofs::TokenLemmas::comment_begins))]
+#[tactic(auto, using(crate::proofs::TokenLemmas::gap_steps))]
 pub(crate) fn gap_end(bytes: &[u8], from: Cursor) -> Cursor
     requires { Fits bytes.now from }
     ensures fits { Fits bytes.now result }
     ensures later { from.at ≤ result.at }
     ensures same { tokens_at between bytes.now from ≡ tokens_at between bytes.now result }
-    ensures separator { result.at < length bytes.now → is_separator (slice_index bytes.now result.at) ≡ false }
+    ensures separator { result.at < length bytes.now
+        → is_separator (slice_index bytes.now result.at) ≡ false }
     ensures comment { result.at < length bytes.now → slice_index bytes.now result.at ≡ 59 → ⊥ }
 {
     let mut cursor = from;
@@ -93,14 +94,16 @@ pub(crate) fn gap_end(bytes: &[u8], from: Cursor) -> Cursor
 }
 
 /// Where a word ends that began at a cursor, and has one byte at least.
-#[tactic(auto, using(crate::proofs::TokenLemmas::word_more, crate::proofs::TokenLemmas::word_ends, crate::proofs::TokenLemmas::word_over))]
+#[tactic(auto, using(crate::proofs::TokenLemmas::word_steps))]
 pub(crate) fn word_end(bytes: &[u8], start: Cursor, from: Cursor) -> Cursor
     requires fits { Fits bytes.now from }
     requires later { start.at < from.at }
     ensures fits { Fits bytes.now result }
     ensures later { from.at ≤ result.at }
-    ensures same { let so_far = word start.place (take (from.at - start.at) (drop start.at bytes.now)) in let whole = word start.place (take (result.at - start.at) (drop start.at bytes.now)) in tokens_at so_far bytes.now from ≡ tokens_at whole bytes.now result }
-    ensures ends { result.at < length bytes.now → is_word_byte (slice_index bytes.now result.at) ≡ false }
+    ensures same { tokens_at (in_word bytes.now start from) bytes.now from
+        ≡ tokens_at (in_word bytes.now start result) bytes.now result }
+    ensures ends { result.at < length bytes.now
+        → is_word_byte (slice_index bytes.now result.at) ≡ false }
 {
     let mut cursor = from;
     while cursor.at < bytes.len() && is_word_byte(bytes[cursor.at]) {

@@ -74,7 +74,8 @@ impl Nest {
     /// Takes the next token in.
     #[tactic(auto, unfolding(crate::specs::Nests::nested))]
     pub fn take(self, alloc: Global, lexeme: Lexeme) -> Result<Nest, ReadFormsStop>
-        ensures { Gives level_of result (nested (reverse self.opened.items) self.forms lexeme.place lexeme.token) }
+        ensures { Gives level_of result
+            (nested (reverse self.opened.items) self.forms lexeme.place lexeme.token) }
     {
         let Lexeme { place, token } = lexeme;
         match token {
@@ -87,7 +88,8 @@ impl Nest {
 
     #[tactic(auto, unfolding(crate::specs::Nests::nested), using(crate::proofs::NestLemmas::reverse_push))]
     fn open(self, alloc: Global, place: Place, bracket: Bracket) -> Result<Nest, ReadFormsStop>
-        ensures { Gives level_of result (nested (reverse self.opened.items) self.forms place (Token.Open bracket)) }
+        ensures { Gives level_of result
+            (nested (reverse self.opened.items) self.forms place (Token.Open bracket)) }
     {
         let Nest { mut opened, forms } = self;
         if opened.len() >= DEEPEST {
@@ -109,7 +111,8 @@ impl Nest {
 
     #[tactic(auto, unfolding(crate::specs::Nests::nested), using(crate::proofs::NestLemmas::reverse_push))]
     fn close(self, place: Place, bracket: Bracket) -> Result<Nest, ReadFormsStop>
-        ensures { Gives level_of result (nested (reverse self.opened.items) self.forms place (Token.Close bracket)) }
+        ensures { Gives level_of result
+            (nested (reverse self.opened.items) self.forms place (Token.Close bracket)) }
     {
         let Nest { mut opened, forms } = self;
         let Some(opening) = opened.pop() else {
@@ -132,7 +135,8 @@ impl Nest {
     }
 
     fn add(self, place: Place, shape: Shape) -> Result<Nest, ReadFormsStop>
-        ensures { Gives level_of result (Ok (level (reverse self.opened.items) (self.forms ++ form place shape ∷ []))) }
+        ensures { Gives level_of result
+            (Ok (level (reverse self.opened.items) (self.forms ++ form place shape ∷ []))) }
     {
         let Nest { opened, mut forms } = self;
         forms.push(Form { place, shape })?;

@@ -1,6 +1,5 @@
 //! From the bytes of a script to its forms.
-ghost use Rattle.std.specs.Prelude.{◌≡◌, ◌⊎◌, ◌≤◌, List, ℕ, [], length, Ok, Err, IfOk, None, Some};
-ghost use Rattle.std.specs.Str.{IsUtf8};
+ghost use Rattle.std.specs.Prelude.{◌≡◌, ◌⊎◌, ◌≤◌, List, [], length, IfOk};
 ghost use Rattle.clj_reader.specs.declared.form.Form.{Form};
 ghost use Rattle.clj_reader.specs.declared.refusal.ReadRefusal.{ReadRefusal};
 ghost use Rattle.clj_reader.specs.Places.{start, behind_all};
@@ -32,11 +31,14 @@ pub fn read_forms(alloc: Global, bytes: &[u8]) -> Result<Forms, ReadFormsStop>
     // What is read is the script of these forms.
     ensures found { IfOk result (λ forms. IsScript bytes.now forms) }
     // The script of some forms is read as these, unless memory runs out.
-    ensures only { (forms : List Form) → IsScript bytes.now forms → (result ≡ Ok forms) ⊎ (result ≡ Err ReadFormsStop.Memory) }
+    ensures only { (forms : List Form) → IsScript bytes.now forms
+        → (result ≡ Ok forms) ⊎ (result ≡ Err ReadFormsStop.Memory) }
     // What is refused has this refusal.
-    ensures refused { (r : ReadRefusal) → result ≡ Err (ReadFormsStop.Refused r) → IsRefused bytes.now r }
+    ensures refused { (r : ReadRefusal) → result ≡ Err (ReadFormsStop.Refused r)
+        → IsRefused bytes.now r }
     // What has a refusal is refused so, unless memory runs out.
-    ensures refuses { (r : ReadRefusal) → IsRefused bytes.now r → (result ≡ Err (ReadFormsStop.Refused r)) ⊎ (result ≡ Err ReadFormsStop.Memory) }
+    ensures refuses { (r : ReadRefusal) → IsRefused bytes.now r
+        → (result ≡ Err (ReadFormsStop.Refused r)) ⊎ (result ≡ Err ReadFormsStop.Memory) }
 {
     read_text(alloc, bytes)
 }

@@ -1,5 +1,5 @@
 //! The next token of a text.
-ghost use Rattle.std.specs.Prelude.{◌≡◌, ◌<◌, ◌≤◌, ℕ, List, length, slice_index, [], ◌∷◌, Some, IfOk, IfSome, IfNone, MatchOption, true, false};
+ghost use Rattle.std.specs.Prelude.{◌≡◌, ◌<◌, ◌≤◌, ℕ, List, length, slice_index, [], ◌∷◌, IfOk, IfSome, IfNone, MatchOption, true, false};
 ghost use Rattle.clj_reader.specs.declared.place.Place.{Place};
 ghost use Rattle.clj_reader.specs.declared.token.Atom.TheVariants as atom;
 ghost use Rattle.clj_reader.specs.declared.token.Token.TheVariants as token;
@@ -22,7 +22,9 @@ pub(crate) fn next_token(
     from: Cursor,
 ) -> Result<Option<(Lexeme, Cursor)>, AllocError>
     requires { Fits bytes.now from }
-    ensures { IfOk result (λ next. MatchOption next (tokens_at between bytes.now from ≡ []) (λ found. Reads bytes.now from found.0 found.1)) }
+    ensures { IfOk result (λ next. MatchOption next
+        (tokens_at between bytes.now from ≡ [])
+        (λ found. Reads bytes.now from found.0 found.1)) }
 {
     let start = gap_end(bytes, from);
     if start.at == bytes.len() {
@@ -67,7 +69,7 @@ fn bracket(bytes: &[u8], start: Cursor) -> (Lexeme, Cursor)
 }
 
 /// The word that begins at a cursor.
-#[tactic(auto, using(crate::proofs::TokenLemmas::word_begins, crate::proofs::TokenLemmas::word_ends, crate::proofs::TokenLemmas::word_over))]
+#[tactic(auto, using(crate::proofs::TokenLemmas::word_steps))]
 fn word(alloc: Global, bytes: &[u8], start: Cursor) -> Result<(Lexeme, Cursor), AllocError>
     requires fits { Fits bytes.now start }
     requires more { start.at < length bytes.now }
@@ -101,7 +103,7 @@ fn text(alloc: Global, bytes: &[u8], start: Cursor) -> Result<(Lexeme, Cursor), 
 }
 
 /// The text that began at `start`, from behind its opening quote.
-#[tactic(auto, using(crate::proofs::TokenLemmas::text_over, crate::proofs::TokenLemmas::text_ends, crate::proofs::TokenLemmas::text_escape, crate::proofs::TokenLemmas::text_more, crate::proofs::TokenLemmas::escape_over, crate::proofs::TokenLemmas::escape_more, crate::proofs::TokenLemmas::escape_none))]
+#[tactic(auto, using(crate::proofs::TokenLemmas::text_steps))]
 fn content(
     alloc: Global,
     bytes: &[u8],
@@ -112,7 +114,8 @@ fn content(
     requires later { start.at < from.at }
     ensures fits { IfOk result (λ found. Fits bytes.now found.1) }
     ensures later { IfOk result (λ found. from.at ≤ found.1.at) }
-    ensures reads { IfOk result (λ found. tokens_at (text start.place []) bytes.now from ≡ found.0 ∷ tokens_at between bytes.now found.1) }
+    ensures reads { IfOk result (λ found. tokens_at (text start.place []) bytes.now from
+        ≡ found.0 ∷ tokens_at between bytes.now found.1) }
 {
     let mut content = Vec::new(alloc);
     let mut cursor = from;
@@ -136,10 +139,12 @@ fn content(
 }
 
 /// What the escape stands for whose character is next, and `None` where it is none.
-#[tactic(auto, using(crate::proofs::TokenLemmas::escape_over, crate::proofs::TokenLemmas::escape_none))]
+#[tactic(auto, using(crate::proofs::TokenLemmas::text_steps))]
 fn escape_at(bytes: &[u8], cursor: Cursor) -> Option<u8>
-    ensures some { IfSome result (λ c. (cursor.at < length bytes.now) × (escaped (slice_index bytes.now cursor.at) ≡ Some c)) }
-    ensures none { IfNone result ((s : Place) (content : List ℕ) → tokens_at (escape s content) bytes.now cursor ≡ unreadable s ∷ []) }
+    ensures some { IfSome result (λ c. (cursor.at < length bytes.now)
+        × (escaped (slice_index bytes.now cursor.at) ≡ Some c)) }
+    ensures none { IfNone result ((s : Place) (content : List ℕ) →
+        tokens_at (escape s content) bytes.now cursor ≡ unreadable s ∷ []) }
 {
     if cursor.at < bytes.len() {
         escaped(bytes[cursor.at])

@@ -1,7 +1,6 @@
 //! Which token a word is.
-ghost use Rattle.std.specs.Prelude.{◌≡◌, ◌+◌, ◌^◌, min, IfOk, Some, None, drop};
-ghost use Rattle.std.specs.Option.{option_map};
-ghost use Rattle.clj_reader.specs.Spellings.{is_number, unsigned, is_negative, is_integer, decimal_from, integer_value, negative_of, is_plain, begins_with_digit, is_signed, behind_byte, is_plain_behind, is_reducers_symbol, is_symbol, is_keyword, word_token};
+ghost use Rattle.std.specs.Prelude.{◌≡◌, min, IfOk};
+ghost use Rattle.clj_reader.specs.Spellings.{is_number, unsigned, is_negative, is_integer, decimal_from, integer_value, negative_of, is_plain, is_signed, is_reducers_symbol, is_symbol, is_keyword, word_token};
 
 use crate::bytes::{all_digits, all_in_symbol, begins_symbol, is_digit, is_sign};
 use crate::name::Name;
