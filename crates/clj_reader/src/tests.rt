@@ -1,4 +1,6 @@
-use crate::{Form, Forms, ReadFormsStop, Shape, read_forms};
+use crate::{
+    Form, Forms, ReadFormsStop, Shape, one_reading, one_refusal, read_forms, script_or_refused,
+};
 use std::alloc::Global;
 use std::str;
 use std::test::Fail;
@@ -216,6 +218,22 @@ fn reads_the_table(rt: HostRuntime) -> Result<(), Fail> {
 /// A bracket of a kind so many times.
 fn repeated(alloc: Global, byte: u8, count: usize) -> Result<Vec<u8>, Fail> {
     Ok(vec![in alloc; byte; count]?)
+}
+
+#[test]
+fn reads_forms_by_their_places(rt: HostRuntime) -> Result<(), Fail> {
+    one_reading();
+    one_refusal();
+    script_or_refused();
+    match read_forms(rt.alloc(), b"a \"b\"") {
+        Ok(forms) => {
+            assert_eq!(rt; forms.len(), 2);
+            assert!(rt; forms.get(1).is_some());
+            assert!(rt; forms.get(2).is_none());
+            Ok(())
+        }
+        Err(_) => Err(Fail::from("refused")),
+    }
 }
 
 #[test]
