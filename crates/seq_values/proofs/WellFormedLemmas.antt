@@ -8,8 +8,7 @@ use Rattle.std.proofs.lemmas.List.{length-map}
 use Rattle.std.proofs.Math.Nat.{le-max_left, le-max_right, max-le}
 use Rattle.seq_values.specs.declared.value.Value.TheVariants as V
 use Rattle.seq_values.specs.declared.value.Node.TheVariants as N
-use Rattle.seq_values.specs.declared.value.Node.TheFolds.{fold-roll-Value, fold-roll-Node, fold_out-FnValue}
-use Rattle.seq_values.specs.Layers.{Value, Node, FnValue, Value-F, Node-F}
+use Rattle.seq_values.specs.Layers.{fold-roll-Value, fold-roll-Node, fold_out-FnValue, Value, Node, FnValue, Value-F, Node-F}
 use Rattle.seq_values.specs.Depth.{node_depth, value_depth, function_depth, depth, depth_of_node, depth_of_function, depth_of_all}
 use Rattle.seq_values.specs.WellFormedTerms.{takes, is_well_formed_term}
 use Rattle.seq_values.specs.declared.term.Term.{Term}
@@ -254,3 +253,32 @@ term_takes t h = (and_parts (are_well_formed t.args) (takes t.op (map sight_of t
 
 pub term_well : (t : Term) → are_well_formed t.args ≡ true → takes t.op (map sight_of t.args) ≡ true → is_well_formed_term t ≡ true
 term_well t h k = both _ _ h k
+
+-- ## What is matched out of a well-formed value, as a `match` of the code leaves it
+
+pub vector_in : (v : Value) (items : List Value) → v ≡ V.Vector items → is_well_formed v ≡ true → are_well_formed items ≡ true
+vector_in v items e h = vector_items items (sym (ap is_well_formed e) ∙ h)
+
+pub reduced_in : (v held : Value) → v ≡ V.Reduced held → is_well_formed v ≡ true → is_well_formed held ≡ true
+reduced_in v held e h = reduced_held held (sym (ap is_well_formed e) ∙ h)
+
+pub node_in : (v : Value) (n : Node) → v ≡ V.Node n → is_well_formed v ≡ true → is_well_formed_node n ≡ true
+node_in v n e h = sym (as_node n) ∙ sym (ap is_well_formed e) ∙ h
+
+pub function_in : (v : Value) (f : FnValue) → v ≡ V.Function f → is_well_formed v ≡ true → is_well_formed_function f ≡ true
+function_in v f e h = sym (as_function f) ∙ sym (ap is_well_formed e) ∙ h
+
+pub cons_heads : (n : Node) (heads : List Value) (rest : Value) → n ≡ N.Cons heads rest → is_well_formed_node n ≡ true → are_well_formed heads ≡ true
+cons_heads n heads rest e h = (cons_holds heads rest (sym (ap is_well_formed_node e) ∙ h)).0.each
+
+pub cons_rest : (n : Node) (heads : List Value) (rest : Value) → n ≡ N.Cons heads rest → is_well_formed_node n ≡ true → is_well_formed rest ≡ true
+cons_rest n heads rest e h = (cons_holds heads rest (sym (ap is_well_formed_node e) ∙ h)).0.last
+
+pub chunk_items : (n : Node) (items : List Value) (rest : Value) → n ≡ N.Chunk items rest → is_well_formed_node n ≡ true → are_well_formed items ≡ true
+chunk_items n items rest e h = (chunk_holds items rest (sym (ap is_well_formed_node e) ∙ h)).0.each
+
+pub chunk_rest : (n : Node) (items : List Value) (rest : Value) → n ≡ N.Chunk items rest → is_well_formed_node n ≡ true → is_well_formed rest ≡ true
+chunk_rest n items rest e h = (chunk_holds items rest (sym (ap is_well_formed_node e) ∙ h)).0.last
+
+pub vec_seq_items : (n : Node) (items : List Value) (at : ℕ) → n ≡ N.VecSeq items at → is_well_formed_node n ≡ true → are_well_formed items ≡ true
+vec_seq_items n items at e h = (vec_seq_holds items at (sym (ap is_well_formed_node e) ∙ h)).1

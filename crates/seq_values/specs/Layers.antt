@@ -3,7 +3,7 @@ pub use Rattle.seq_values.specs.declared.value.Value.{Value, out-Value}
 pub use Rattle.seq_values.specs.declared.value.Node.{Node, out-Node}
 pub use Rattle.seq_values.specs.declared.value.FnValue.{FnValue}
 pub use Rattle.seq_values.specs.declared.value.Node.TheOpen.{Value-F, Node-F, FnValue-F}
-pub use Rattle.seq_values.specs.declared.value.Node.TheFolds.{fold-Value, fold-Node, fold-FnValue}
+pub use Rattle.seq_values.specs.declared.value.Node.TheFolds.{fold-Value, fold-Node, fold-FnValue, fold-roll-Value, fold-roll-Node, fold_out-FnValue}
 
 -- one layer, with an `A` in place of each value, node and function that it holds
 abbrev pub ValueLayer : Type 0 → Type 0

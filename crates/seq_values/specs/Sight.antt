@@ -51,7 +51,7 @@ kept_by_all [] = Some []
 kept_by_all (a_function target (Some kept) ∷ others) = joined kept (kept_by_all others)
 kept_by_all _ = None
 
--- Transducers are a word of lazy operations with one argument fewer, `cat` itself, a composition of transducers, and `identity`, which has no stage.
+-- Transducers (https://clojure.org/reference/transducers) are a word of lazy operations with one argument fewer, `cat` itself, a composition of transducers, and `identity`, which has no stage.
 abbrev pub kept_by_function : Target → List Sight → Option (List Kept)
 kept_by_function (Builtin Identity) [] = Some []
 kept_by_function (Builtin CatWord) [] = Some []

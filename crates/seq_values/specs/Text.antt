@@ -4,7 +4,7 @@ use Rattle.std.specs.Prelude.{Option, Some, None}
 use Rattle.std.specs.Fmt.{signed_decimal}
 use Rattle.seq_values.specs.Layers.{Value, Node, FnValue, Value-F, out-Value}
 
--- The bytes that are shown by a letter after a backslash: newline, tab, return, form feed, backspace, quote and backslash. Clojure's reference page on the reader has these escapes.
+-- The bytes that are shown by a letter after a backslash: newline, tab, return, form feed, backspace, quote and backslash. They are those of `char-escape-string` in Clojure's core_print.clj.
 abbrev pub letter_for : ℕ → Option ℕ
 letter_for byte =
     if nat_eq byte 10 then Some 110

@@ -14,7 +14,7 @@ mod words;
 
 pub use builders::{before, chunk_before, empty_list, integer, is_nil, one_item, part, reduced, term_of_one, term_of_two, truth, two_items, vector, word_value};
 pub use cell_id::CellId;
-pub use depth::depth_of;
+pub use depth::{depth_of, depth_of_all};
 pub use line::Line;
 pub use print::print_atom;
 pub use term::{Answer, CallStop, Term, Turn};

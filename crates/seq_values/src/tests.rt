@@ -6,7 +6,7 @@ ghost use Rattle.seq_values.specs.WellFormed.{good, node_seen, binds};
 ghost use Rattle.seq_values.specs.WellFormedTerms.{takes};
 
 use crate::{
-    Builtin, CellId, FnValue, FolderKind, Held, Line, Node, Op, Target, Text, Value, XfKind,
+    Builtin, CellId, FnValue, FolderKind, Held, Line, Node, Op, Target, Term, Text, Value, XfKind,
     depth_of, print_atom,
 };
 use seq_vector::{NoMemory, PVec, Share};
@@ -91,6 +91,30 @@ fn shares(rt: HostRuntime) -> Result<(), Fail> {
     assert_eq!(rt; items.len(), 1);
     assert!(rt; matches!(items.get(0), Some(Value::Int(1))));
     assert!(rt; CellId::of(0).is_none());
+    Ok(())
+}
+
+#[test]
+fn shares_functions_and_terms(rt: HostRuntime) -> Result<(), Fail> {
+    let alloc = rt.alloc();
+    let word = Value::Function(FnValue::word(Builtin::Inc));
+    let Value::Function(function) = shared(&word)? else {
+        return Err(Fail::from("no function"));
+    };
+    assert_eq!(rt; function.target, Target::Builtin(Builtin::Inc));
+    let args = PVec::new().push(alloc, word).map_err(refused)?;
+    let term = Term {
+        op: Op::Repeat,
+        args,
+    };
+    let other = shared(&term)?;
+    assert_eq!(rt; other.op, Op::Repeat);
+    assert_eq!(rt; other.args.len(), 1);
+    let Some(node) = Node::over(term.args) else {
+        return Err(Fail::from("no node"));
+    };
+    assert!(rt; matches!(shared(&node)?, Node::VecSeq { at: 0, .. }));
+    assert!(rt; matches!(Node::range(1, 1), Node::Empty));
     Ok(())
 }
 
