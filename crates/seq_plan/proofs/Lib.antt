@@ -1,4 +1,5 @@
 pub mod AlikeNodes
 pub mod AlikePlans
 pub mod CursorLemmas
+pub mod Silences
 pub mod Thens
