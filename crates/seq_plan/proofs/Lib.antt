@@ -3,3 +3,4 @@ pub mod AlikePlans
 pub mod CursorLemmas
 pub mod Silences
 pub mod Thens
+pub mod Depths
