@@ -12,3 +12,5 @@ pub mod WorkedSum
 pub mod WorkedTwice
 pub mod WorkedEndless
 pub mod Closing
+pub mod TrailsAlike
+pub mod TrailsTrue

@@ -5,6 +5,7 @@ use Rattle.seq_base.specs.declared.thrown.Thrown.TheVariants.{BadType, Steps}
 use Rattle.seq_values.specs.Model.{Value, Outcome, gave, threw}
 use Rattle.seq_plan.specs.Plan.{Plan, ask, seq, give, throw}
 use Rattle.seq_plan.specs.Nodes.{now, asks_for, no_seq, found}
+use Rattle.seq_plan.specs.Silent.{Silently, arrives, opens, finds}
 use Rattle.seq_meaning.specs.Evaluates.{Script}
 use Rattle.seq_meaning.specs.Walk.{at_found, Made, made, needs, ends, walk, finish, asks, walk_by, answered as meets_answer, spent}
 use Rattle.seq_meaning.specs.Reached.{also_all, Reached}
@@ -29,7 +30,7 @@ pub length-push : {A : Type 0} (xs : List A) (x : A) → length (xs ++ x ∷ [])
 length-push [] x = refl
 length-push (y ∷ xs) x = ap suc (length-push xs x)
 
-fewer : {C : Type 0} (cell_of : ℕ → C) (ms : List (C × Made C)) (m : C × Made C) → Calls cell_of (ms ++ m ∷ []) → Calls cell_of ms
+pub fewer : {C : Type 0} (cell_of : ℕ → C) (ms : List (C × Made C)) (m : C × Made C) → Calls cell_of (ms ++ m ∷ []) → Calls cell_of ms
 fewer cell_of ms m k i x p = k i x (old_at ms m i x p)
 
 module _ {C : Type 0} (script : Script C) (cell_of : ℕ → C) where
@@ -104,3 +105,8 @@ module _ {C : Type 0} (script : Script C) (cell_of : ℕ → C) where
 
   pub trail_throws : (limit : ℕ) (whole : Plan C) (n : ℕ) (x : Thrown) (asked : List (C × Outcome C)) (mades : List (C × Made C)) → Trail script limit whole n (throw x) asked mades → Calls cell_of mades → walk script cell_of limit whole 1 (answers_of asked) ≡ ends (threw x) (mades_of mades)
   trail_throws limit whole n x asked mades t h = at_throw script cell_of (trails limit whole n (throw x) asked mades t h) ∙ all_ends (threw x) (mades_of mades)
+
+  pub trail_passes : {limit n : ℕ} {whole p q : Plan C} {asked : List (C × Outcome C)} {mades : List (C × Made C)} → Trail script limit whole n p asked mades → Silently script.rules.on_loop p q → Trail script limit whole n q asked mades
+  trail_passes t arrives = t
+  trail_passes t (opens s) = trail_passes (looped t) s
+  trail_passes t (finds e s) = trail_passes (at_once t e) s

@@ -7,12 +7,15 @@ use Rattle.seq_values.specs.Model.{Value, Outcome, gave, threw}
 use Rattle.clj_script.specs.Trees.{Program}
 use Rattle.seq_plan.specs.Plan.{Rules, Plan, ask, give, throw}
 use Rattle.seq_plan.specs.Alike.{Tells, LikePlan}
+use Rattle.seq_plan.specs.Silent.{Silently}
 use Rattle.seq_meaning.specs.Evaluates.{Script}
 use Rattle.seq_meaning.specs.Walk.{Made, needs, ends, makes_of, walk}
-use Rattle.seq_meaning.specs.Names.{Name, retry}
-use Rattle.seq_meaning.specs.Gives.{Work, run, Of, Part, True, Gives}
+use Rattle.seq_meaning.specs.Names.{Name, part, retry}
+use Rattle.seq_meaning.specs.Gives.{Work, work, Task, in_order, script_of, task_plan, run, Of, Part, True, Gives}
 use Rattle.seq_meaning.specs.Alike.{LikeScript, LikeAnswers, LikeRun}
 use Rattle.seq_meaning.specs.Twins.{TwinEval, TwinCell, LikeWork, Renames}
+use Rattle.seq_meaning.specs.Counts.{IsIn}
+use Rattle.seq_meaning.specs.Follows.{Follows, HasLikes}
 use Rattle.seq_meaning.specs.More.{OneMore, IsDefined}
 use Rattle.seq_meaning.specs.Reached.{Reached}
 use Rattle.seq_meaning.specs.Trail.{Trail, answers_of, mades_of, Calls}
@@ -79,3 +82,15 @@ TrailGives = (script : Script ℕ) (limit : ℕ) (whole : Plan ℕ) (n : ℕ) (v
 
 abbrev pub TrailThrows : Type 0
 TrailThrows = (script : Script ℕ) (limit : ℕ) (whole : Plan ℕ) (n : ℕ) (x : Thrown) (asked : List (ℕ × Outcome ℕ)) (mades : List (ℕ × Made ℕ)) → Trail script limit whole n (throw x) asked mades → (cell_of : ℕ → ℕ) → Calls cell_of mades → walk script cell_of limit whole 1 (answers_of asked) ≡ ends (threw x) (mades_of mades)
+
+-- a trail goes on over what a rule may pass over
+abbrev pub TrailPasses : Type 0
+TrailPasses = (script : Script ℕ) (limit : ℕ) (whole : Plan ℕ) (n : ℕ) (p q : Plan ℕ) (asked : List (ℕ × Outcome ℕ)) (mades : List (ℕ × Made ℕ)) → Trail script limit whole n p asked mades → Silently script.rules.on_loop p q → Trail script limit whole n q asked mades
+
+-- A trail in numbers, whose answers are given by the names of the parts that were asked and whose makes have names, goes the same way in names. The test tells which name a number has.
+abbrev pub TrailInNames : Type 0
+TrailInNames = (rules : Rules Name) (program : Program) (limit : ℕ) (test : ℕ → Name → Bool) (s : Script ℕ) (t : Script Name) (whole : Plan ℕ) (other : Plan Name) (n : ℕ) (p : Plan ℕ) (asked : List (ℕ × Outcome ℕ)) (mades : List (ℕ × Made ℕ)) → LikeScript (Tells test) s t → LikePlan (Tells test) whole other → Trail s limit whole n p asked mades → HasLikes (Tells test) (Gives rules program limit) asked mades → Follows (Tells test) (Gives rules program limit) t limit other n p asked mades
+
+-- A trail of an evaluation's work in its own names, whose answers are given by the parts that were asked, has true answers.
+abbrev pub TrailIsTrue : Type 0
+TrailIsTrue = (rules : Rules Name) (program : Program) (limit : ℕ) (e : Name) (defs : List (Value Name)) (task : Task) (n : ℕ) (p : Plan Name) (asked : List (Name × Outcome Name)) (mades : List (Name × Made Name)) → Of rules program limit e (work defs task) → Trail (script_of rules program limit defs) limit (task_plan rules program limit defs task) n p asked mades → Calls (λ j. part e j) mades → ((c : Name) (o : Outcome Name) → IsIn (c, o) asked → Gives rules program limit c o) → (a : List (Outcome Name)) × True rules program limit e a × (in_order a ≡ answers_of asked)

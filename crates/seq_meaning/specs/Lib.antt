@@ -11,4 +11,5 @@ pub mod Trail
 pub mod Prints
 pub mod SmallTable
 pub mod Worked
+pub mod Follows
 pub mod Laws

@@ -1,7 +1,7 @@
 //! The meaning of a program. Each function states a law over the definitions.
 #![tactic(auto)]
 
-ghost use Rattle.seq_meaning.specs.Laws.{OneWork, OnePart, OneOutcome, OneAnswer, OneOrder, RunDefined, RunGoesOn, NoneAfterThrow, MakesGrow, RunsRename, TwinsRunAlike, RetryThrows, TrailRuns, TrailNeeds, TrailGives, TrailThrows};
+ghost use Rattle.seq_meaning.specs.Laws.{OneWork, OnePart, OneOutcome, OneAnswer, OneOrder, RunDefined, RunGoesOn, NoneAfterThrow, MakesGrow, RunsRename, TwinsRunAlike, RetryThrows, TrailRuns, TrailNeeds, TrailGives, TrailThrows, TrailPasses, TrailInNames, TrailIsTrue};
 ghost use Rattle.seq_meaning.specs.SmallTable.{SmallRenames};
 ghost use Rattle.seq_meaning.specs.Worked.{SumOfThree, OneMoreThanOne, AskedTwice, WithoutEnd};
 
@@ -83,6 +83,21 @@ pub fn law_trail_gives()
 /// Where the walk comes to an error, the run ends by it.
 pub fn law_trail_throws()
     ensures { TrailThrows }
+{}
+
+/// A rule may pass over loops that are written out and seqs that are there already.
+pub fn law_trail_passes()
+    ensures { TrailPasses }
+{}
+
+/// What was walked in numbers is walked in names.
+pub fn law_trail_in_names()
+    ensures { TrailInNames }
+{}
+
+/// What was walked in names, with answers that the asked parts give, has true answers.
+pub fn law_trail_is_true()
+    ensures { TrailIsTrue }
 {}
 
 /// A small table of rules, for worked scripts, renames.

@@ -1,4 +1,6 @@
 pub mod AlikeNodes
 pub mod AlikePlans
 pub mod CursorLemmas
+pub mod Silences
 pub mod Thens
+pub mod Depths

@@ -1,6 +1,9 @@
 -- What holds of plans and of nodes, as statements. A renaming is given by a test that tells which cells are the same.
 use Rattle.std.specs.Prelude.{◌≡◌, ℕ, Bool}
 use Rattle.seq_values.specs.Model.{Value}
+use Rattle.seq_values.specs.Depth.{depth as depth_in_code}
+use Rattle.seq_values.specs.Plain.{plain}
+use Rattle.seq_values.specs.declared.value.Value.{Value as Held}
 use Rattle.seq_plan.specs.Plan.{Plan, then, give}
 use Rattle.seq_plan.specs.Nodes.{depth, first_of, rests_of}
 use Rattle.seq_plan.specs.declared.cursor.Cursor.{Cursor}
@@ -32,3 +35,7 @@ LikeThen = (test : ℕ → ℕ → Bool) (p q : Plan ℕ) (f g : Value ℕ → P
 -- `seq` of what a cursor stands for is that itself, so that a walk may go straight on
 abbrev pub CursorIsFound : Type 0
 CursorIsFound = (c : Cursor) → IsFound (stands c)
+
+-- a value of the code is as deep as the value that it stands for
+abbrev pub DepthIsPlain : Type 0
+DepthIsPlain = (v : Held) → depth (plain v) ≡ depth_in_code v

@@ -4,7 +4,7 @@
 mod cursor;
 mod left;
 
-ghost use Rattle.seq_plan.specs.Laws.{ThenJoins, ThenGives, LikeIsAsDeep, LikeFirsts, LikeRests, LikeThen, CursorIsFound};
+ghost use Rattle.seq_plan.specs.Laws.{ThenJoins, ThenGives, LikeIsAsDeep, LikeFirsts, LikeRests, LikeThen, CursorIsFound, DepthIsPlain};
 
 pub use cursor::{Cursor, Walked, cursor_at};
 pub use left::{HeadsLeft, ItemsLeft, RangeLeft, VecLeft};
@@ -42,4 +42,9 @@ pub fn law_like_then()
 /// `seq` of what a cursor stands for is that itself.
 pub fn law_cursor_is_found()
     ensures { CursorIsFound }
+{}
+
+/// A value of the code is as deep as the value that it stands for.
+pub fn law_depth_is_plain()
+    ensures { DepthIsPlain }
 {}

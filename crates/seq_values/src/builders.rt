@@ -12,7 +12,8 @@ use std::alloc::Global;
 
 /// One value as a vector.
 pub fn one_item(alloc: Global, only: Value) -> Result<PVec<Value>, NoMemory>
-    ensures { IfOk result (λ items. plains items ≡ plain only ∷ []) }
+    ensures same { IfOk result (λ items. items ≡ only ∷ []) }
+    ensures stands { IfOk result (λ items. plains items ≡ plain only ∷ []) }
 {
     let Ok(mut items) = Vec::with_capacity(alloc, 1) else {
         return Err(NoMemory);
@@ -28,7 +29,8 @@ pub fn one_item(alloc: Global, only: Value) -> Result<PVec<Value>, NoMemory>
 
 /// Two values as a vector.
 pub fn two_items(alloc: Global, first: Value, second: Value) -> Result<PVec<Value>, NoMemory>
-    ensures { IfOk result (λ items. plains items ≡ plain first ∷ plain second ∷ []) }
+    ensures same { IfOk result (λ items. items ≡ first ∷ second ∷ []) }
+    ensures stands { IfOk result (λ items. plains items ≡ plain first ∷ plain second ∷ []) }
 {
     let Ok(mut items) = Vec::with_capacity(alloc, 2) else {
         return Err(NoMemory);
@@ -65,7 +67,8 @@ pub fn part(id: CellId) -> Value
 
 /// The items as a vector.
 pub fn vector(items: PVec<Value>) -> Value
-    ensures { plain result ≡ M.vector (M.values (plains items)) }
+    ensures same { result ≡ Value.Vector items }
+    ensures stands { plain result ≡ M.vector (M.values (plains items)) }
 {
     Value::Vector(items)
 }
@@ -86,7 +89,8 @@ pub fn word_value(word: Builtin) -> Value
 
 /// One element before a rest.
 pub fn before(alloc: Global, first: Value, rest: Value) -> Result<Value, NoMemory>
-    ensures { IfOk result (λ v. plain v ≡ M.cons (M.values (plain first ∷ [])) (plain rest)) }
+    ensures same { IfOk result (λ v. v ≡ Value.Node (Node.Cons (first ∷ []) rest)) }
+    ensures stands { IfOk result (λ v. plain v ≡ M.cons (M.values (plain first ∷ [])) (plain rest)) }
 {
     let heads = one_item(alloc, first)?;
     match Shared::of(alloc, rest) {
@@ -97,7 +101,8 @@ pub fn before(alloc: Global, first: Value, rest: Value) -> Result<Value, NoMemor
 
 /// A chunk of elements before a rest.
 pub fn chunk_before(alloc: Global, items: PVec<Value>, rest: Value) -> Result<Value, NoMemory>
-    ensures { IfOk result (λ v. plain v ≡ M.chunk (M.values (plains items)) (plain rest)) }
+    ensures same { IfOk result (λ v. v ≡ Value.Node (Node.Chunk items rest)) }
+    ensures stands { IfOk result (λ v. plain v ≡ M.chunk (M.values (plains items)) (plain rest)) }
 {
     match Shared::of(alloc, rest) {
         Ok(rest) => Ok(Value::Node(Node::Chunk { items, rest })),
@@ -107,7 +112,8 @@ pub fn chunk_before(alloc: Global, items: PVec<Value>, rest: Value) -> Result<Va
 
 /// A value that ends a reduction.
 pub fn reduced(alloc: Global, value: Value) -> Result<Value, NoMemory>
-    ensures { IfOk result (λ v. plain v ≡ M.reduced (plain value)) }
+    ensures same { IfOk result (λ v. v ≡ Value.Reduced value) }
+    ensures stands { IfOk result (λ v. plain v ≡ M.reduced (plain value)) }
 {
     match Shared::of(alloc, value) {
         Ok(held) => Ok(Value::Reduced(held)),
@@ -117,7 +123,8 @@ pub fn reduced(alloc: Global, value: Value) -> Result<Value, NoMemory>
 
 /// A term of one argument.
 pub fn term_of_one(alloc: Global, op: Op, only: Value) -> Result<Term, NoMemory>
-    ensures { IfOk result (λ t. plain_term t ≡ record { op = op; args = plain only ∷ [] }) }
+    ensures same { IfOk result (λ t. (t.op ≡ op) × (t.args ≡ only ∷ [])) }
+    ensures stands { IfOk result (λ t. plain_term t ≡ record { op = op; args = plain only ∷ [] }) }
 {
     let args = one_item(alloc, only)?;
     Ok(Term { op, args })
@@ -125,7 +132,8 @@ pub fn term_of_one(alloc: Global, op: Op, only: Value) -> Result<Term, NoMemory>
 
 /// A term of two arguments.
 pub fn term_of_two(alloc: Global, op: Op, first: Value, second: Value) -> Result<Term, NoMemory>
-    ensures { IfOk result (λ t. plain_term t ≡ record { op = op; args = plain first ∷ plain second ∷ [] }) }
+    ensures same { IfOk result (λ t. (t.op ≡ op) × (t.args ≡ first ∷ second ∷ [])) }
+    ensures stands { IfOk result (λ t. plain_term t ≡ record { op = op; args = plain first ∷ plain second ∷ [] }) }
 {
     let args = two_items(alloc, first, second)?;
     Ok(Term { op, args })

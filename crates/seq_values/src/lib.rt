@@ -12,7 +12,10 @@ mod text;
 mod value;
 mod words;
 
-pub use builders::{before, chunk_before, empty_list, integer, is_nil, one_item, part, reduced, term_of_one, term_of_two, truth, two_items, vector, word_value};
+pub use builders::{
+    before, chunk_before, empty_list, integer, is_nil, one_item, part, reduced, term_of_one,
+    term_of_two, truth, two_items, vector, word_value,
+};
 pub use cell_id::CellId;
 pub use depth::{depth_of, depth_of_all};
 pub use line::Line;
