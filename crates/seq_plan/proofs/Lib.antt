@@ -1,3 +1,4 @@
 pub mod AlikeNodes
+pub mod AlikeLists
 pub mod AlikePlans
 pub mod Thens

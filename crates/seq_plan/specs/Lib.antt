@@ -1,5 +1,6 @@
 pub mod Plan
 pub mod Nodes
+pub mod Lists
 pub mod Alike
 pub mod Turns
 pub mod Laws
