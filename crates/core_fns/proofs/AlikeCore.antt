@@ -6,13 +6,13 @@ use Rattle.seq_values.specs.declared.words.Target.{Target}
 use Rattle.seq_values.specs.declared.words.Target.TheVariants as T
 use Rattle.seq_values.specs.Model.{Value, Values}
 use Rattle.seq_plan.specs.Plan.{Plan}
-use Rattle.seq_plan.specs.Nodes.{holds, is_nil}
 use Rattle.seq_plan.specs.Alike.{Like, like_nil, like_bool, like_int, like_keyword, like_text, like_vector, like_function, like_reduced, LikeAll, like_none, like_more, LikeList, like_end, like_item, LikePlan, like_call, like_give, like_throw}
 use Rattle.seq_plan.proofs.AlikeNodes.{like-cond, like-values, like-append, like-give_value, like-with_members}
-use Rattle.seq_plan.proofs.AlikeLists.{like-give_list}
-use Rattle.core_fns.specs.Arithmetic.{also, integers, on_integers, of_any, at_least_one, of_some, of_one, of_two, give_bool, give_int, from_left, minus, unless_zero}
+use Rattle.seq_plan.proofs.AlikeLists.{like-give_list, like-of_value}
+use Rattle.seq_plan.proofs.AlikeTests.{like-is_nil, like-holds, like-bools}
+use Rattle.core_fns.specs.Arithmetic.{also, integers, on_integers, of_any, first_and_others, of_some, of_one, of_two, give_bool, give_int, from_left, minus, unless_zero}
 use Rattle.core_fns.specs.Transducers.{stages, all_stages, has_stage}
-use Rattle.core_fns.specs.Table.{is_true, is_false, is_number, is_keyword, is_text, is_vector, is_function, is_reduced, unreduced, of_value, tells, give_function, give_vector, binds_one, partial, comp, completing, monoid, core_call, composed, comp_call, completing_call, monoid_call, core_function}
+use Rattle.core_fns.specs.Table.{is_true, is_false, is_number, is_keyword, is_text, is_vector, is_function, is_reduced, unreduced, tells, give_function, give_vector, binds_one, partial, comp, completing, monoid, core_call, composed, comp_call, completing_call, monoid_call, core_function}
 
 module _ {C D : Type 0} {R : C → D → Type 0} where
   -- ## Numbers of arguments
@@ -29,13 +29,13 @@ module _ {C D : Type 0} {R : C → D → Type 0} where
   like-of_any : {k : List ℤ → Plan C} {h : List ℤ → Plan D} → ((ns : List ℤ) → LikePlan R (k ns) (h ns)) → {xs : List (Value C)} {ys : List (Value D)} → LikeList R xs ys → LikePlan R (of_any k xs) (of_any h ys)
   like-of_any {k = k} {h = h} f {xs = xs} {ys = ys} q = subst (λ o. LikePlan R (on_integers k (integers xs)) (on_integers h o)) (like-integers q) (like-on_integers f (integers xs))
 
-  like-at_least_one : {k : ℤ → List ℤ → Plan C} {h : ℤ → List ℤ → Plan D} → ((n : ℤ) (ns : List ℤ) → LikePlan R (k n ns) (h n ns)) → (ns : List ℤ) → LikePlan R (at_least_one k ns) (at_least_one h ns)
-  like-at_least_one f [] = like_throw
-  like-at_least_one f (n ∷ ns) = f n ns
+  like-first_and_others : {k : ℤ → List ℤ → Plan C} {h : ℤ → List ℤ → Plan D} → ((n : ℤ) (ns : List ℤ) → LikePlan R (k n ns) (h n ns)) → (ns : List ℤ) → LikePlan R (first_and_others k ns) (first_and_others h ns)
+  like-first_and_others f [] = like_throw
+  like-first_and_others f (n ∷ ns) = f n ns
 
   like-of_some : {k : ℤ → List ℤ → Plan C} {h : ℤ → List ℤ → Plan D} → ((n : ℤ) (ns : List ℤ) → LikePlan R (k n ns) (h n ns)) → {xs : List (Value C)} {ys : List (Value D)} → LikeList R xs ys → LikePlan R (of_some k xs) (of_some h ys)
   like-of_some f like_end = like_throw
-  like-of_some f (like_item p q) = like-of_any (like-at_least_one f) (like_item p q)
+  like-of_some f (like_item p q) = like-of_any (like-first_and_others f) (like_item p q)
 
   like-of_one : {k : ℤ → Plan C} {h : ℤ → Plan D} → ((n : ℤ) → LikePlan R (k n) (h n)) → {xs : List (Value C)} {ys : List (Value D)} → LikeList R xs ys → LikePlan R (of_one k xs) (of_one h ys)
   like-of_one f (like_item (like_int {n = n}) like_end) = f n
@@ -46,10 +46,6 @@ module _ {C D : Type 0} {R : C → D → Type 0} where
   like-of_two f (like_item (like_int {n = a}) (like_item (like_int {n = b}) like_end)) = f a b
   like-of_two f (like_item _ (like_item _ like_end)) = like_throw
   like-of_two f _ = like_throw
-
-  like-of_value : {k : Value C → Plan C} {h : Value D → Plan D} → ((v : Value C) (w : Value D) → Like R v w → LikePlan R (k v) (h w)) → {xs : List (Value C)} {ys : List (Value D)} → LikeList R xs ys → LikePlan R (of_value k xs) (of_value h ys)
-  like-of_value f (like_item p like_end) = f _ _ p
-  like-of_value f _ = like_throw
 
   -- ## Answers
 
@@ -68,20 +64,12 @@ module _ {C D : Type 0} {R : C → D → Type 0} where
   like-unless_zero b h = like-cond _ like_throw h
 
   like-give_bool : {a b : Bool} → a ≡ b → LikePlan R (give_bool a) (give_bool b)
-  like-give_bool {a = a} e = subst (λ c. LikePlan R (give_bool a) (give_bool c)) e (like_give like_bool)
+  like-give_bool e = like_give (like-bools e)
 
   like-tells : {test : Value C → Bool} {other : Value D → Bool} → ((v : Value C) (w : Value D) → Like R v w → test v ≡ other w) → {xs : List (Value C)} {ys : List (Value D)} → LikeList R xs ys → LikePlan R (tells test xs) (tells other ys)
   like-tells f q = like-of_value (λ v w e. like-give_bool (f v w e)) q
 
   -- ## Values by kind
-
-  like-is_nil : (v : Value C) (w : Value D) → Like R v w → is_nil v ≡ is_nil w
-  like-is_nil v w like_nil = refl
-  like-is_nil v w _ = refl
-
-  like-holds : (v : Value C) (w : Value D) → Like R v w → holds v ≡ holds w
-  like-holds v w like_nil = refl
-  like-holds v w _ = refl
 
   like-is_true : (v : Value C) (w : Value D) → Like R v w → is_true v ≡ is_true w
   like-is_true v w like_bool = refl
@@ -169,11 +157,11 @@ module _ {C D : Type 0} {R : C → D → Type 0} where
   like-core_call B.IsNegative h = like-of_one (λ n. like_give like_bool) h
   like-core_call B.IsEven h = like-of_one (λ n. like_give like_bool) h
   like-core_call B.IsOdd h = like-of_one (λ n. like_give like_bool) h
-  like-core_call B.IsNil h = like-tells like-is_nil h
-  like-core_call B.IsSome h = like-tells (λ v w e. ap not (like-is_nil v w e)) h
+  like-core_call B.IsNil h = like-tells (λ v w e. like-is_nil e) h
+  like-core_call B.IsSome h = like-tells (λ v w e. ap not (like-is_nil e)) h
   like-core_call B.IsTrue h = like-tells like-is_true h
   like-core_call B.IsFalse h = like-tells like-is_false h
-  like-core_call B.Not h = like-tells (λ v w e. ap not (like-holds v w e)) h
+  like-core_call B.Not h = like-tells (λ v w e. ap not (like-holds e)) h
   like-core_call B.IsNumber h = like-tells like-is_number h
   like-core_call B.IsKeyword h = like-tells like-is_keyword h
   like-core_call B.IsString h = like-tells like-is_text h
@@ -231,7 +219,7 @@ module _ {C D : Type 0} {R : C → D → Type 0} where
   pub like-core_function : (t : Target) {bs : List (Value C)} {cs : List (Value D)} → LikeList R bs cs → {xs : List (Value C)} {ys : List (Value D)} → LikeList R xs ys → LikePlan R (core_function t bs xs) (core_function t cs ys)
   like-core_function T.Partial (like_item f bs) q = like-with_members (like-append bs q) (λ vs ws e. like_call f e (λ v w i. like_give i))
   like-core_function T.Comp p q = like-comp_function p q
-  like-core_function T.Complement (like_item f like_end) q = like_call f q (λ v w e. like-give_bool (ap not (like-holds v w e)))
+  like-core_function T.Complement (like_item f like_end) q = like_call f q (λ v w e. like-give_bool (ap not (like-holds e)))
   like-core_function T.Constantly (like_item x like_end) q = like_give x
   like-core_function T.Completing p q = like-completing_call p q
   like-core_function T.Monoid p q = like-monoid_call p q

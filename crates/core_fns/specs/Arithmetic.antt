@@ -50,14 +50,14 @@ module _ {C : Type 0} where
   abbrev pub of_any : (List ℤ → Plan C) → List (Value C) → Plan C
   of_any k xs = on_integers k (integers xs)
 
-  abbrev pub at_least_one : (ℤ → List ℤ → Plan C) → List ℤ → Plan C
-  at_least_one k [] = throw Arity
-  at_least_one k (n ∷ ns) = k n ns
+  abbrev pub first_and_others : (ℤ → List ℤ → Plan C) → List ℤ → Plan C
+  first_and_others k [] = throw Arity
+  first_and_others k (n ∷ ns) = k n ns
 
   -- one integer or more
   abbrev pub of_some : (ℤ → List ℤ → Plan C) → List (Value C) → Plan C
   of_some k [] = throw Arity
-  of_some k (x ∷ xs) = of_any (at_least_one k) (x ∷ xs)
+  of_some k (x ∷ xs) = of_any (first_and_others k) (x ∷ xs)
 
   abbrev pub of_one : (ℤ → Plan C) → List (Value C) → Plan C
   of_one k (int n ∷ []) = k n

@@ -12,6 +12,7 @@ use Rattle.seq_values.specs.Model.{Value, bool, int, keyword, text, vector, func
 use Rattle.seq_plan.specs.Plan.{Plan, call, give, throw}
 use Rattle.seq_plan.specs.Nodes.{holds, is_nil, give_value, with_members}
 use Rattle.seq_plan.specs.Lists.{give_list}
+use Rattle.seq_plan.specs.Arguments.{of_value}
 use Rattle.core_fns.specs.Arithmetic.{left_of, each_pair, is_even, of_any, of_some, of_one, of_two, give_bool, give_int, from_left, minus, quotient, remainder, modulus}
 use Rattle.core_fns.specs.Transducers.{all_stages, has_stage}
 
@@ -57,11 +58,6 @@ module _ {C : Type 0} where
   unreduced v = v
 
   -- ## Rows
-
-  -- one argument of any kind
-  abbrev pub of_value : (Value C → Plan C) → List (Value C) → Plan C
-  of_value k (x ∷ []) = k x
-  of_value k _ = throw Arity
 
   -- `nil?`, `number?` and the like: whether it is so
   abbrev pub tells : (Value C → Bool) → List (Value C) → Plan C

@@ -1,20 +1,17 @@
 -- The calls of lazy operations look at cells only to ask them.
-use Rattle.std.proofs.Common.{ℤ, pos, int_lt, List}
+use Rattle.std.proofs.Common.{pos, List}
 use Rattle.seq_values.specs.declared.words.Op.{Op}
 use Rattle.seq_values.specs.declared.words.Op.TheVariants as O
 use Rattle.seq_values.specs.declared.words.Target.TheVariants as T
 use Rattle.seq_values.specs.declared.words.XfKind.{XfKind}
 use Rattle.seq_values.specs.declared.words.XfKind.TheVariants as X
 use Rattle.seq_values.specs.Model.{Value}
-use Rattle.seq_plan.specs.Plan.{Plan}
-use Rattle.seq_plan.specs.Alike.{Like, like_int, like_function, like_cell, like_cons, like_none, like_more, LikeList, like_end, like_item, like_term, LikePlan, like_make, like_give, like_throw}
-use Rattle.seq_plan.proofs.AlikeNodes.{like-cond, like-values, like-range_at, like-with_value, like-give_value}
-use Rattle.lazy_rules.specs.Calls.{lazily, give_stage, with_function, map_call, remove_call, with_count, at_least_one, partition_call, iterate_rule, iterate_call, range_call, repeat_call, cycle_call}
+use Rattle.seq_plan.specs.Alike.{Like, like_int, like_function, like_cell, like_none, like_more, LikeList, like_end, like_item, like_term, LikePlan, like_make, like_give, like_throw}
+use Rattle.seq_plan.proofs.AlikeNodes.{like-values, like-range_at, like-with_value, like-give_value}
+use Rattle.seq_plan.proofs.AlikeLists.{like-lazily, like-first_and, like-at_least_one}
+use Rattle.lazy_rules.specs.Calls.{give_stage, with_function, map_call, remove_call, with_count, partition_call, iterate_rule, iterate_call, range_call, repeat_call, cycle_call}
 
 module _ {C D : Type 0} {R : C → D → Type 0} where
-  pub like-lazily : (op : Op) {xs : List (Value C)} {ys : List (Value D)} → LikeList R xs ys → LikePlan R (lazily op xs) (lazily op ys)
-  like-lazily op h = like_make (like_term h) (λ c d r. like_give (like_cell r))
-
   like-give_stage : (kind : XfKind) {xs : List (Value C)} {ys : List (Value D)} → LikeList R xs ys → LikePlan R (give_stage kind xs) (give_stage kind ys)
   like-give_stage kind h = like-give_value (like_function {t = T.Xf kind} (like-values h))
 
@@ -44,9 +41,6 @@ module _ {C D : Type 0} {R : C → D → Type 0} where
   like-with_count op kind (like_item _ (like_item c like_end)) = like_throw
   like-with_count op kind _ = like_throw
 
-  pub like-at_least_one : (n : ℤ) {p : Plan C} {q : Plan D} → LikePlan R p q → LikePlan R (at_least_one n p) (at_least_one n q)
-  like-at_least_one n h = like-cond (int_lt n (pos 1)) like_throw h
-
   pub like-partition_call : {xs : List (Value C)} {ys : List (Value D)} → LikeList R xs ys → LikePlan R (partition_call xs) (partition_call ys)
   like-partition_call (like_item (like_int {n = n}) like_end) = like-at_least_one n (like-give_stage X.PartitionAll (like_item (like_int {n = n}) like_end))
   like-partition_call (like_item (like_int {n = n}) (like_item c like_end)) = like-at_least_one n (like-lazily O.Parts (like_item (like_int {n = n}) (like_item c like_end)))
@@ -55,7 +49,7 @@ module _ {C D : Type 0} {R : C → D → Type 0} where
   like-partition_call _ = like_throw
 
   like-iterate_rule : {f : Value C} {g : Value D} → Like R f g → {x : Value C} {y : Value D} → Like R x y → LikePlan R (iterate_rule f x) (iterate_rule g y)
-  like-iterate_rule f x = like_make (like_term (like_item f (like_item x like_end))) (λ c d r. like-give_value (like_cons (like_more x like_none) (like_cell r)))
+  like-iterate_rule f x = like-first_and x O.Next (like_item f (like_item x like_end))
 
   pub like-iterate_call : {xs : List (Value C)} {ys : List (Value D)} → LikeList R xs ys → LikePlan R (iterate_call xs) (iterate_call ys)
   like-iterate_call (like_item f (like_item x like_end)) = like-iterate_rule f x

@@ -3,12 +3,12 @@ use Rattle.std.proofs.Common.{◌≡◌, Bool, not, cond, List, [], ◌∷◌, r
 use Rattle.seq_values.specs.Model.{Value, bool}
 use Rattle.seq_base.specs.declared.thrown.Thrown.TheVariants.{BadType}
 use Rattle.seq_plan.specs.Plan.{Plan, seq, go, give, throw, then, equal_from, ends_with, visits}
-use Rattle.seq_plan.specs.Nodes.{first_of, rest_of, holds, if_true}
+use Rattle.seq_plan.specs.Nodes.{first_of, rest_of, if_true}
 use Rattle.seq_plan.specs.Alike.{Like, like_nil, like_bool, like_int, like_keyword, like_text, like_function, like_reduced, LikeList, like_end, like_item, LikePlan, like_visit, like_seq, like_go, like_give, like_throw, LikeRound, like_ends_with, like_fails, like_visits}
 use Rattle.seq_plan.proofs.AlikeNodes.{like-cond, like-first_of, like-rest_of, like-if_true}
 use Rattle.seq_plan.proofs.AlikePlans.{like-then}
 use Rattle.lazy_rules.specs.Equal.{is_incomparable, holds_elements, same_atom, pair_on, equal_on, equal_round, equal_each, equal_call, unequal_call}
-use Rattle.lazy_rules.proofs.AlikeWalks.{like-cond_round, like-is_nil, like-bools}
+use Rattle.seq_plan.proofs.AlikeTests.{like-holds, like-is_nil, like-bools, like-cond_round}
 
 module _ {C D : Type 0} {R : C → D → Type 0} where
   like-incomparable : {v : Value C} {w : Value D} → Like R v w → is_incomparable v ≡ is_incomparable w
@@ -19,10 +19,6 @@ module _ {C D : Type 0} {R : C → D → Type 0} where
   like-holds_elements : {v : Value C} {w : Value D} → Like R v w → holds_elements v ≡ holds_elements w
   like-holds_elements like_nil = refl
   like-holds_elements _ = refl
-
-  like-holds : {v : Value C} {w : Value D} → Like R v w → holds v ≡ holds w
-  like-holds like_nil = refl
-  like-holds _ = refl
 
   like-same_atom : {v : Value C} {w : Value D} → Like R v w → {x : Value C} {y : Value D} → Like R x y → same_atom v x ≡ same_atom w y
   like-same_atom like_nil like_nil = refl

@@ -2,29 +2,16 @@
 use Rattle.std.proofs.Common.{ℕ, ℤ, pos, ◌-ℤ◌, int_le, true, false, List, map, Option}
 use Rattle.seq_values.specs.declared.words.Op.{Op}
 use Rattle.seq_values.specs.declared.words.Op.TheVariants as O
-use Rattle.seq_values.specs.Model.{Value, Values}
+use Rattle.seq_values.specs.Model.{Value}
 use Rattle.seq_plan.specs.Plan.{Plan}
-use Rattle.seq_plan.specs.Nodes.{first_of, rest_of, with_items}
-use Rattle.seq_plan.specs.Alike.{Like, like_nil, like_bool, like_int, like_vector, like_cell, like_cons, like_chunk, LikeAll, like_none, like_more, LikeList, like_end, like_item, like_term, LikePlan, like_seq, like_call, like_go, like_make, like_give, LikeRound, like_ends_with, like_fails, like_visits}
-use Rattle.seq_plan.proofs.AlikeNodes.{LikeChunk, like_unchunked, like_chunked, like-cond, like-list, like-values, like-append, like-first_of, like-rest_of, like-chunk_of, like-if_nil, like-if_true, like-round_at, like-give_value, like-with_members, like-call_each, made_alike}
-use Rattle.seq_plan.proofs.AlikeLists.{like-list_of}
-use Rattle.lazy_rules.specs.Terms.{first_and, items_and, with_seq, map_on, map_rule, seq_each, unless_nil_among, map_all_rule, where_true, where_some, sift, one_or_cell, sift_on, filter_rule, keep_rule, take_rule, take_while_rule, drop_rule, drop_round, drop_while_rule, drop_while_round, concat_on, concat_rule, mapcat_rule, next_one_rule, repeat_rule, cycle_on, cycle_rule, parts_end, parts_on, parts_round, parts_rule}
-use Rattle.lazy_rules.proofs.AlikeWalks.{like-cond_round}
+use Rattle.seq_plan.specs.Nodes.{first_of, rest_of}
+use Rattle.seq_plan.specs.Alike.{Like, like_nil, like_bool, like_int, like_vector, like_cell, like_none, LikeList, like_end, like_item, like_term, LikePlan, like_seq, like_call, like_go, like_make, like_give, LikeRound, like_ends_with, like_fails, like_visits}
+use Rattle.seq_plan.proofs.AlikeNodes.{LikeChunk, like_unchunked, like_chunked, like-cond, like-list, like-values, like-append, like-first_of, like-rest_of, like-chunk_of, like-if_nil, like-if_true, like-round_at, like-with_members, like-call_each, made_alike}
+use Rattle.seq_plan.proofs.AlikeLists.{like-list_of, like-lazily, like-first_and, like-items_and, like-with_seq}
+use Rattle.lazy_rules.specs.Terms.{map_on, map_rule, seq_each, unless_nil_among, map_all_rule, where_true, where_some, sift, one_or_cell, sift_on, filter_rule, keep_rule, take_rule, take_while_rule, drop_rule, drop_round, drop_while_rule, drop_while_round, concat_on, concat_rule, mapcat_rule, next_one_rule, repeat_rule, cycle_on, cycle_rule, parts_end, parts_on, parts_round, parts_rule}
+use Rattle.seq_plan.proofs.AlikeTests.{like-cond_round}
 
 module _ {C D : Type 0} {R : C → D → Type 0} where
-  like-with_items : {xs : Values C} {ys : Values D} → LikeAll R xs ys → {v : Value C} {w : Value D} → Like R v w → Like R (with_items xs v) (with_items ys w)
-  like-with_items like_none h = h
-  like-with_items (like_more p q) h = like_chunk (like_more p q) h
-
-  like-first_and : {x : Value C} {y : Value D} → Like R x y → (op : Op) {xs : List (Value C)} {ys : List (Value D)} → LikeList R xs ys → LikePlan R (first_and x op xs) (first_and y op ys)
-  like-first_and x op h = like_make (like_term h) (λ c d r. like-give_value (like_cons (like_more x like_none) (like_cell r)))
-
-  like-items_and : {zs : List (Value C)} {us : List (Value D)} → LikeList R zs us → (op : Op) {xs : List (Value C)} {ys : List (Value D)} → LikeList R xs ys → LikePlan R (items_and zs op xs) (items_and us op ys)
-  like-items_and z op h = like_make (like_term h) (λ c d r. like-give_value (like-with_items (like-values z) (like_cell r)))
-
-  like-with_seq : {c : Value C} {d : Value D} → Like R c d → {k : Value C → Plan C} {h : Value D → Plan D} → ((v : Value C) (w : Value D) → Like R v w → LikePlan R (k v) (h w)) → LikePlan R (with_seq c k) (with_seq d h)
-  like-with_seq c f = like_seq c (λ s t e. like-if_nil e (like_give like_nil) (f s t e))
-
   -- ## Map, MapN
 
   like-map_on : {f s : Value C} {g t : Value D} → Like R f g → Like R s t → {c : Option (List (Value C) × Value C)} {d : Option (List (Value D) × Value D)} → LikeChunk R c d → LikePlan R (map_on f s c) (map_on g t d)
@@ -71,7 +58,7 @@ module _ {C D : Type 0} {R : C → D → Type 0} where
   like-sift l f (like_item p q) z k = like_call f (like_item p like_end) (λ v w e. like-sift l f q (like-append z (l _ _ p v w e)) k)
 
   like-one_or_cell : {zs : List (Value C)} {us : List (Value D)} → LikeList R zs us → (op : Op) {xs : List (Value C)} {ys : List (Value D)} → LikeList R xs ys → LikePlan R (one_or_cell zs op xs) (one_or_cell us op ys)
-  like-one_or_cell like_end op h = like_make (like_term h) (λ c d r. like_give (like_cell r))
+  like-one_or_cell like_end op h = like-lazily op h
   like-one_or_cell (like_item p q) op h = like-first_and p op h
 
   like-sift_on : (op : Op) {keeps : Value C → Value C → List (Value C)} {others : Value D → Value D → List (Value D)} → ((x : Value C) (y : Value D) → Like R x y → (v : Value C) (w : Value D) → Like R v w → LikeList R (keeps x v) (others y w)) → {f s : Value C} {g t : Value D} → Like R f g → Like R s t → {c : Option (List (Value C) × Value C)} {d : Option (List (Value D) × Value D)} → LikeChunk R c d → LikePlan R (sift_on op keeps f s c) (sift_on op others g t d)
@@ -127,7 +114,7 @@ module _ {C D : Type 0} {R : C → D → Type 0} where
       like-with_seq c (λ s t e.
       like_call f (like_item (like-first_of e) like_end) (λ v w i.
       like_make (like_term (like_item f (like_item (like-rest_of e) like_end))) (λ m n r.
-      like_make (like_term (like_item i (like_item (like_cell r) like_end))) (λ k l q. like_give (like_cell q)))))
+      like-lazily O.Concat (like_item i (like_item (like_cell r) like_end)))))
 
   -- ## Next, Repeat, Cycle
 

@@ -1,30 +1,15 @@
 -- The rules of the words that walk look at cells only to ask them.
-use Rattle.std.proofs.Common.{◌≡◌, ◌-◌, ℤ, pos, ◌+ℤ◌, ◌-ℤ◌, int_lt, int_le, Bool, ◌&&◌, true, false, cond, List, ◌∷◌, length, refl, subst}
-use Rattle.seq_values.specs.Model.{Value, bool, int, list}
-use Rattle.seq_plan.specs.Plan.{Plan, go, give, nth_from, Round, plan_of}
-use Rattle.seq_plan.specs.Nodes.{is_nil}
-use Rattle.seq_plan.specs.Alike.{Like, like_nil, like_bool, like_int, like_vector, like_function, like_reduced, like_cell, like_range, like_vec_seq, like_none, LikeList, like_end, like_item, LikePlan, like_seq, like_call, like_go, like_give, like_throw, LikeRound, like_ends_with, like_fails, like_visits}
+use Rattle.std.proofs.Common.{◌≡◌, ◌-◌, ℤ, pos, ◌+ℤ◌, ◌-ℤ◌, int_lt, int_le, ◌&&◌, cond, List, ◌∷◌, length, subst}
+use Rattle.seq_values.specs.Model.{Value, int, list}
+use Rattle.seq_plan.specs.Plan.{Plan, go, give, nth_from, plan_of}
+use Rattle.seq_plan.specs.Alike.{Like, like_nil, like_int, like_vector, like_function, like_reduced, like_cell, like_range, like_vec_seq, like_none, LikeList, like_end, like_item, LikePlan, like_seq, like_call, like_go, like_give, like_throw, LikeRound, like_ends_with, like_fails, like_visits}
 use Rattle.seq_plan.proofs.AlikeNodes.{like-cond, like-values, like-list, like-append, like-length, like-value_at, like-first_of, like-rest_of, like-round_at, like-with_value, like-give_value, like-with_members, made_alike}
 use Rattle.seq_plan.proofs.AlikeLists.{like-reverse, like-list_of, like-with_first}
+use Rattle.seq_plan.proofs.AlikeTests.{like-is_nil, like-bools, like-cond_round}
 use Rattle.seq_plan.proofs.AlikePlans.{like-plan_of}
-use Rattle.lazy_rules.specs.Walks.{greatest, of_value, first_rule, second_rule, rest_rule, next_rule, empty_rule, failing, nth_of_nil, nth_of_vector, nth_rule, nth_call, nth_round, last_rule, last_round, count_rule, count_ends, count_goes_on, count_on, count_round, gather_round, members, gather, vec_rule, reverse_rule, apply_rule, apply_call, doall_rule, doall_round, every_call, every_round, some_call, some_round, cons_call, with_one_more, conj_each, conj_rule, conj_call, unless_reduced, reduce_round, reduce_rule, reduce_call, into_call}
+use Rattle.lazy_rules.specs.Walks.{greatest, first_rule, second_rule, rest_rule, next_rule, empty_rule, failing, nth_of_nil, nth_of_vector, nth_rule, nth_call, nth_round, last_rule, last_round, count_rule, count_ends, count_goes_on, count_on, count_round, gather_round, members, gather, vec_rule, reverse_rule, apply_rule, apply_call, doall_rule, doall_round, every_call, every_round, some_call, some_round, cons_call, with_one_more, conj_each, conj_rule, conj_call, unless_reduced, reduce_round, reduce_rule, reduce_call, into_call}
 
 module _ {C D : Type 0} {R : C → D → Type 0} where
-  pub like-of_value : {k : Value C → Plan C} {h : Value D → Plan D} → ((v : Value C) (w : Value D) → Like R v w → LikePlan R (k v) (h w)) → {xs : List (Value C)} {ys : List (Value D)} → LikeList R xs ys → LikePlan R (of_value k xs) (of_value h ys)
-  like-of_value f (like_item p like_end) = f _ _ p
-  like-of_value f _ = like_throw
-
-  pub like-cond_round : (b : Bool) {p q : Round C} {p' q' : Round D} → LikeRound R p p' → LikeRound R q q' → LikeRound R (cond b p q) (cond b p' q')
-  like-cond_round true h k = h
-  like-cond_round false h k = k
-
-  pub like-is_nil : {v : Value C} {w : Value D} → Like R v w → is_nil v ≡ is_nil w
-  like-is_nil like_nil = refl
-  like-is_nil _ = refl
-
-  pub like-bools : {a b : Bool} → a ≡ b → Like R (bool a) (bool b)
-  like-bools {a = a} e = subst (λ c. Like R (bool a) (bool c)) e like_bool
-
   -- ## seq, first, second, rest, next, empty?
 
   pub like-first_rule : {v : Value C} {w : Value D} → Like R v w → LikePlan R (first_rule v) (first_rule w)

@@ -1,6 +1,6 @@
 -- The words of lazy operations: what each call makes, and gives. Each is the function of its name in clojure.core (https://clojure.org/reference/sequences). With one argument fewer, most of them give a transducer (https://clojure.org/reference/transducers).
-use Rattle.std.specs.Prelude.{ℤ, pos, int_lt, cond, List, [], ◌∷◌}
-use Rattle.seq_base.specs.declared.thrown.Thrown.TheVariants.{Arity, BadType, Index}
+use Rattle.std.specs.Prelude.{pos, List, [], ◌∷◌}
+use Rattle.seq_base.specs.declared.thrown.Thrown.TheVariants.{Arity, BadType}
 use Rattle.seq_values.specs.declared.words.Builtin.TheVariants as B
 use Rattle.seq_values.specs.declared.words.Kind.TheVariants.{Lazy}
 use Rattle.seq_values.specs.declared.words.Op.{Op}
@@ -8,15 +8,13 @@ use Rattle.seq_values.specs.declared.words.Op.TheVariants as O
 use Rattle.seq_values.specs.declared.words.Target.TheVariants as T
 use Rattle.seq_values.specs.declared.words.XfKind.{XfKind}
 use Rattle.seq_values.specs.declared.words.XfKind.TheVariants as X
-use Rattle.seq_values.specs.Model.{Value, int, function, cell, cons, no_values, ◌&◌, values}
+use Rattle.seq_values.specs.Model.{Value, int, function, cell, no_values, ◌&◌, values}
 use Rattle.seq_plan.specs.Plan.{Plan, give, throw}
 use Rattle.seq_plan.specs.Nodes.{range_at, with_value, give_value, make_term}
+use Rattle.seq_plan.specs.Lists.{lazily, first_and}
+use Rattle.seq_plan.specs.Arguments.{at_least_one}
 
 module _ {C : Type 0} where
-  -- makes a lazy part and gives its cell
-  abbrev pub lazily : Op → List (Value C) → Plan C
-  lazily op xs = make_term Lazy op xs (λ m. give (cell m))
-
   -- gives a transducer of one stage with what is bound to it
   abbrev pub give_stage : XfKind → List (Value C) → Plan C
   give_stage kind xs = give_value (function (T.Xf kind) (values xs))
@@ -48,9 +46,6 @@ module _ {C : Type 0} where
   with_count op kind (_ ∷ c ∷ []) = throw BadType
   with_count op kind _ = throw Arity
 
-  abbrev pub at_least_one : ℤ → Plan C → Plan C
-  at_least_one n p = cond (int_lt n (pos 1)) (throw Index) p
-
   -- `partition-all`: the size of a group, which is at least 1, and a collection
   abbrev pub partition_call : List (Value C) → Plan C
   partition_call (int n ∷ []) = at_least_one n (give_stage X.PartitionAll (int n ∷ []))
@@ -61,7 +56,7 @@ module _ {C : Type 0} where
 
   -- `iterate`: x, and f of it, and so on
   abbrev pub iterate_rule : Value C → Value C → Plan C
-  iterate_rule f x = make_term Lazy O.Next (f ∷ x ∷ []) (λ m. give_value (cons (x & no_values) (cell m)))
+  iterate_rule f x = first_and x O.Next (f ∷ x ∷ [])
 
   abbrev pub iterate_call : List (Value C) → Plan C
   iterate_call (f ∷ x ∷ []) = iterate_rule f x

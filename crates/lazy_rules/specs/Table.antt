@@ -8,9 +8,11 @@ use Rattle.seq_values.specs.declared.words.Op.TheVariants as O
 use Rattle.seq_values.specs.declared.words.XfKind.TheVariants as X
 use Rattle.seq_values.specs.Model.{Value, int}
 use Rattle.seq_plan.specs.Plan.{Plan, seq, give, throw, Loop, nth_from, last_from, count_from, gather_from, doall_from, every_from, some_from, equal_from, reduce_from, drop_from, drop_while_from, parts_from, Round, fails}
-use Rattle.lazy_rules.specs.Walks.{of_value, first_rule, second_rule, rest_rule, next_rule, empty_rule, nth_call, nth_round, last_rule, last_round, count_rule, count_round, gather_round, vec_rule, reverse_rule, apply_call, doall_rule, doall_round, every_call, every_round, some_call, some_round, cons_call, conj_call, reduce_call, reduce_round, into_call}
+use Rattle.seq_plan.specs.Lists.{lazily}
+use Rattle.seq_plan.specs.Arguments.{of_value}
+use Rattle.lazy_rules.specs.Walks.{first_rule, second_rule, rest_rule, next_rule, empty_rule, nth_call, nth_round, last_rule, last_round, count_rule, count_round, gather_round, vec_rule, reverse_rule, apply_call, doall_rule, doall_round, every_call, every_round, some_call, some_round, cons_call, conj_call, reduce_call, reduce_round, into_call}
 use Rattle.lazy_rules.specs.Equal.{equal_call, unequal_call, equal_round}
-use Rattle.lazy_rules.specs.Calls.{lazily, with_function, map_call, remove_call, with_count, partition_call, iterate_call, range_call, repeat_call, cycle_call}
+use Rattle.lazy_rules.specs.Calls.{with_function, map_call, remove_call, with_count, partition_call, iterate_call, range_call, repeat_call, cycle_call}
 use Rattle.lazy_rules.specs.Terms.{map_rule, map_all_rule, filter_rule, keep_rule, take_rule, take_while_rule, drop_rule, drop_round, drop_while_rule, drop_while_round, concat_rule, mapcat_rule, next_one_rule, repeat_rule, cycle_rule, parts_rule, parts_round}
 
 module _ {C : Type 0} where

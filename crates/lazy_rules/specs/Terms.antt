@@ -5,26 +5,12 @@ use Rattle.seq_base.specs.declared.thrown.Thrown.TheVariants.{BadType}
 use Rattle.seq_values.specs.declared.words.Kind.TheVariants.{Lazy}
 use Rattle.seq_values.specs.declared.words.Op.{Op}
 use Rattle.seq_values.specs.declared.words.Op.TheVariants as O
-use Rattle.seq_values.specs.Model.{Value, nil, int, vector, cell, cons, no_values, ◌&◌, list, values}
+use Rattle.seq_values.specs.Model.{Value, nil, int, vector, cell, no_values, list, values}
 use Rattle.seq_plan.specs.Plan.{Plan, seq, call, go, give, drop_from, drop_while_from, parts_from, Round, ends_with, fails, visits, calls_for}
-use Rattle.seq_plan.specs.Nodes.{first_of, rest_of, chunk_of, with_items, holds, is_nil, if_true, if_nil, round_at, give_value, with_members, make_term, call_each}
-use Rattle.seq_plan.specs.Lists.{list_of}
+use Rattle.seq_plan.specs.Nodes.{first_of, rest_of, chunk_of, holds, is_nil, if_true, if_nil, round_at, with_members, make_term, call_each}
+use Rattle.seq_plan.specs.Lists.{list_of, lazily, first_and, items_and, with_seq}
 
 module _ {C : Type 0} where
-  -- ## What comes before the cell of the rest
-
-  -- a Cons of one element and the part for the rest
-  abbrev pub first_and : Value C → Op → List (Value C) → Plan C
-  first_and x op xs = make_term Lazy op xs (λ m. give_value (cons (x & no_values) (cell m)))
-
-  -- a Chunk of the elements and the part for the rest, or its cell itself where there are none
-  abbrev pub items_and : List (Value C) → Op → List (Value C) → Plan C
-  items_and ys op xs = make_term Lazy op xs (λ m. give_value (with_items (values ys) (cell m)))
-
-  -- goes on with the seq, where that isn't nil
-  abbrev pub with_seq : Value C → (Value C → Plan C) → Plan C
-  with_seq c k = seq c (λ s. if_nil s (give nil) (k s))
-
   -- ## Map, MapN
 
   -- f of each element of a chunk, in order; else of the first one
@@ -64,7 +50,7 @@ module _ {C : Type 0} where
   sift f keeps ys (x ∷ xs) k = call f (x ∷ []) (λ y. sift f keeps (ys ++ keeps x y) xs k)
 
   abbrev pub one_or_cell : List (Value C) → Op → List (Value C) → Plan C
-  one_or_cell [] op xs = make_term Lazy op xs (λ m. give (cell m))
+  one_or_cell [] op xs = lazily op xs
   one_or_cell (x ∷ ys) op xs = first_and x op xs
 
   abbrev pub sift_on : Op → (Value C → Value C → List (Value C)) → Value C → Value C → Option (List (Value C) × Value C) → Plan C
@@ -129,7 +115,7 @@ module _ {C : Type 0} where
       with_seq c (λ s.
       call f (first_of s ∷ []) (λ y.
       make_term Lazy O.Mapcat (f ∷ rest_of s ∷ []) (λ m.
-      make_term Lazy O.Concat (y ∷ cell m ∷ []) (λ k. give (cell k)))))
+      lazily O.Concat (y ∷ cell m ∷ []))))
 
   -- ## Next, Repeat, Cycle
 

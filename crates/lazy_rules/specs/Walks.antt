@@ -14,11 +14,6 @@ abbrev pub greatest : ℤ
 greatest = pos 9223372036854775807
 
 module _ {C : Type 0} where
-  -- one argument of any kind
-  abbrev pub of_value : (Value C → Plan C) → List (Value C) → Plan C
-  of_value k (x ∷ []) = k x
-  of_value k _ = throw Arity
-
   -- ## seq, first, second, rest, next, empty?
 
   -- nil where there is no element

@@ -1,4 +1,5 @@
 pub mod AlikeNodes
+pub mod AlikeTests
 pub mod AlikeLists
 pub mod AlikePlans
 pub mod Thens

@@ -1,9 +1,11 @@
--- Lists of the language: how one is made of its elements, and how an element is put before a sequence.
+-- Lists of the language: how one is made of its elements, and how elements are put before a sequence, or before the part for the rest of it.
 use Rattle.std.specs.Prelude.{List, [], ◌∷◌, ◌++◌, reverse}
 use Rattle.seq_base.specs.declared.thrown.Thrown.TheVariants.{BadType}
 use Rattle.seq_values.specs.Model.{Value, nil, cell, vector, empty, cons, chunk, range, vec_seq, no_values, ◌&◌, list, values}
-use Rattle.seq_plan.specs.Plan.{Plan, give, throw}
-use Rattle.seq_plan.specs.Nodes.{with_value, with_members}
+use Rattle.seq_values.specs.declared.words.Kind.TheVariants.{Lazy}
+use Rattle.seq_values.specs.declared.words.Op.{Op}
+use Rattle.seq_plan.specs.Plan.{Plan, seq, give, throw}
+use Rattle.seq_plan.specs.Nodes.{if_nil, with_items, with_value, give_value, with_members, make_term}
 
 module _ {C : Type 0} where
   -- `()`, or one node with all of the elements, after which nothing comes
@@ -32,3 +34,19 @@ module _ {C : Type 0} where
   with_first x (range from at end) k = put_before x (range from at end) k
   with_first x (vec_seq ys at) k = put_before x (vec_seq ys at) k
   with_first x _ k = throw BadType
+
+  -- makes a lazy part and gives its cell
+  abbrev pub lazily : Op → List (Value C) → Plan C
+  lazily op xs = make_term Lazy op xs (λ m. give (cell m))
+
+  -- a Cons of one element and the part for the rest
+  abbrev pub first_and : Value C → Op → List (Value C) → Plan C
+  first_and x op xs = make_term Lazy op xs (λ m. give_value (cons (x & no_values) (cell m)))
+
+  -- a Chunk of the elements and the part for the rest, or its cell itself where there are none
+  abbrev pub items_and : List (Value C) → Op → List (Value C) → Plan C
+  items_and ys op xs = make_term Lazy op xs (λ m. give_value (with_items (values ys) (cell m)))
+
+  -- goes on with the seq, or gives nil where that is nil
+  abbrev pub with_seq : Value C → (Value C → Plan C) → Plan C
+  with_seq c k = seq c (λ s. if_nil s (give nil) (k s))
