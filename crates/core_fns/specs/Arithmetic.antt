@@ -26,9 +26,11 @@ abbrev pub each_pair : (ℤ → ℤ → Bool) → ℤ → List ℤ → Bool
 each_pair test n [] = true
 each_pair test n (m ∷ ms) = test n m && each_pair test m ms
 
+-- a multiple of 2
 abbrev pub is_even : ℤ → Bool
 is_even n = int_eq (int_rem n (pos 2)) (pos 0)
 
+-- one more before those, if they are there
 abbrev pub also : ℤ → Option (List ℤ) → Option (List ℤ)
 also n None = None
 also n (Some ns) = Some (n ∷ ns)
@@ -40,6 +42,7 @@ module _ {C : Type 0} where
   integers (int n ∷ xs) = also n (integers xs)
   integers (_ ∷ xs) = None
 
+  -- goes on with them
   abbrev pub on_integers : (List ℤ → Plan C) → Option (List ℤ) → Plan C
   on_integers k None = throw BadType
   on_integers k (Some ns) = k ns
@@ -50,6 +53,7 @@ module _ {C : Type 0} where
   abbrev pub of_any : (List ℤ → Plan C) → List (Value C) → Plan C
   of_any k xs = on_integers k (integers xs)
 
+  -- goes on with the first number and the others
   abbrev pub first_and_others : (ℤ → List ℤ → Plan C) → List ℤ → Plan C
   first_and_others k [] = throw Arity
   first_and_others k (n ∷ ns) = k n ns
@@ -59,11 +63,13 @@ module _ {C : Type 0} where
   of_some k [] = throw Arity
   of_some k (x ∷ xs) = of_any (first_and_others k) (x ∷ xs)
 
+  -- one integer alone
   abbrev pub of_one : (ℤ → Plan C) → List (Value C) → Plan C
   of_one k (int n ∷ []) = k n
   of_one k (_ ∷ []) = throw BadType
   of_one k _ = throw Arity
 
+  -- two integers
   abbrev pub of_two : (ℤ → ℤ → Plan C) → List (Value C) → Plan C
   of_two k (int a ∷ int b ∷ []) = k a b
   of_two k (_ ∷ _ ∷ []) = throw BadType
@@ -88,6 +94,7 @@ module _ {C : Type 0} where
   minus n [] = give_int (neg_ℤ n)
   minus n (m ∷ ms) = from_left ◌-ℤ◌ n (m ∷ ms)
 
+  -- a division by zero
   abbrev pub unless_zero : ℤ → Plan C → Plan C
   unless_zero b p = cond (int_eq b (pos 0)) (throw Divide) p
 

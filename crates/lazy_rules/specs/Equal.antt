@@ -11,6 +11,7 @@ same_truth true b = b
 same_truth false b = not b
 
 module _ {C : Type 0} where
+  -- a function, a transducer or reducer too, or a reduced value
   abbrev pub is_incomparable : Value C → Bool
   is_incomparable (function t xs) = true
   is_incomparable (reduced v) = true
@@ -52,6 +53,7 @@ module _ {C : Type 0} where
       (ends_with (bool (is_nil s && is_nil t)))
       (visits (then (pair_on (first_of s) (first_of t)) (λ b. if_true b (seq (rest_of s) (λ u. seq (rest_of t) (λ v. go equal_from (u ∷ v ∷ []) give))) (give b))))
 
+  -- the two seqs
   abbrev pub equal_round : List (Value C) → Round C
   equal_round (s ∷ t ∷ []) = equal_on s t
   equal_round _ = fails BadType

@@ -26,6 +26,7 @@ module _ {C : Type 0} where
   seq_each ss [] k = k ss
   seq_each ss (c ∷ cs) k = seq c (λ s. seq_each (ss ++ s ∷ []) cs k)
 
+  -- nil where one of them is nil
   abbrev pub unless_nil_among : List (Value C) → Plan C → Plan C
   unless_nil_among [] p = p
   unless_nil_among (s ∷ ss) p = if_nil s (give nil) (unless_nil_among ss p)
@@ -49,10 +50,12 @@ module _ {C : Type 0} where
   sift f keeps ys [] k = k ys
   sift f keeps ys (x ∷ xs) k = call f (x ∷ []) (λ y. sift f keeps (ys ++ keeps x y) xs k)
 
+  -- of the element that is kept, if it is: that before the part for the rest, or the cell of that part itself
   abbrev pub one_or_cell : List (Value C) → Op → List (Value C) → Plan C
   one_or_cell [] op xs = lazily op xs
   one_or_cell (x ∷ ys) op xs = first_and x op xs
 
+  -- f of each element of a chunk, in order, and a chunk of those that are kept; else of the first one. Where none is kept the rule goes on to no further chunk: it gives the cell of the part for the rest.
   abbrev pub sift_on : Op → (Value C → Value C → List (Value C)) → Value C → Value C → Option (List (Value C) × Value C) → Plan C
   sift_on op keeps f s (Some p) = sift f keeps [] p.0 (λ ys. items_and ys op (f ∷ p.1 ∷ []))
   sift_on op keeps f s None = call f (first_of s ∷ []) (λ y. one_or_cell (keeps (first_of s) y) op (f ∷ rest_of s ∷ []))
@@ -69,9 +72,11 @@ module _ {C : Type 0} where
   abbrev pub take_rule : ℤ → Value C → Plan C
   take_rule n c = cond (int_le n (pos 0)) (give nil) (with_seq c (λ s. first_and (first_of s) O.Take (int (n -ℤ pos 1) ∷ rest_of s ∷ [])))
 
+  -- the elements up to the first of which it isn't so
   abbrev pub take_while_rule : Value C → Value C → Plan C
   take_while_rule p c = with_seq c (λ s. call p (first_of s ∷ []) (λ y. if_true y (first_and (first_of s) O.TakeWhile (p ∷ rest_of s ∷ [])) (give nil)))
 
+  -- the node that is left is given, and no part is made
   abbrev pub drop_rule : ℤ → Value C → Plan C
   drop_rule n c = seq c (λ s. go drop_from (int n ∷ s ∷ []) give)
 
@@ -85,6 +90,7 @@ module _ {C : Type 0} where
       (visits (seq (rest_of s) (λ t. go drop_from (int (n -ℤ pos 1) ∷ t ∷ []) give))))
   drop_round _ = fails BadType
 
+  -- the elements from the first on of which it isn't so
   abbrev pub drop_while_rule : Value C → Value C → Plan C
   drop_while_rule p c = seq c (λ s. go drop_while_from (p ∷ s ∷ []) give)
 
@@ -123,6 +129,7 @@ module _ {C : Type 0} where
   abbrev pub next_one_rule : Value C → Value C → Plan C
   next_one_rule f x = call f (x ∷ []) (λ y. first_and y O.Next (f ∷ y ∷ []))
 
+  -- x without end
   abbrev pub repeat_rule : Value C → Plan C
   repeat_rule x = first_and x O.Repeat (x ∷ [])
 

@@ -20,6 +20,7 @@ module _ {C : Type 0} where
   abbrev pub first_rule : Value C → Plan C
   first_rule x = seq x (λ s. if_nil s (give nil) (give (first_of s)))
 
+  -- the first element of the rest
   abbrev pub second_rule : Value C → Plan C
   second_rule x = seq x (λ s. if_nil s (give nil) (first_rule (rest_of s)))
 
@@ -31,6 +32,7 @@ module _ {C : Type 0} where
   abbrev pub next_rule : Value C → Plan C
   next_rule x = seq x (λ s. if_nil s (give nil) (seq (rest_of s) give))
 
+  -- whether there is no element
   abbrev pub empty_rule : Value C → Plan C
   empty_rule x = seq x (λ s. give (bool (is_nil s)))
 
@@ -46,14 +48,17 @@ module _ {C : Type 0} where
   nth_of_nil [] = give nil
   nth_of_nil (d ∷ ds) = give d
 
+  -- a place outside a vector fails, and nothing is walked
   abbrev pub nth_of_vector : ℤ → List (Value C) → List (Value C) → Plan C
   nth_of_vector i ds xs = cond (int_le (pos 0) i && int_lt i (pos (length xs))) (give (value_at xs (unsigned_abs i))) (plan_of (failing ds))
 
+  -- of another collection the seq comes first, and then a place below 0 fails
   abbrev pub nth_rule : ℤ → List (Value C) → Value C → Plan C
   nth_rule i ds nil = nth_of_nil ds
   nth_rule i ds (vector xs) = nth_of_vector i ds (list xs)
   nth_rule i ds c = seq c (λ s. cond (int_lt i (pos 0)) (plan_of (failing ds)) (go nth_from (int i ∷ s ∷ ds) give))
 
+  -- a collection, a place, and a default or none
   abbrev pub nth_call : List (Value C) → Plan C
   nth_call (c ∷ int i ∷ []) = nth_rule i [] c
   nth_call (c ∷ int i ∷ d ∷ []) = nth_rule i (d ∷ []) c
@@ -73,6 +78,7 @@ module _ {C : Type 0} where
 
   -- ## last, count
 
+  -- nil where there is no element
   abbrev pub last_rule : Value C → Plan C
   last_rule c = seq c (λ s. go last_from (nil ∷ s ∷ []) give)
 
@@ -87,6 +93,7 @@ module _ {C : Type 0} where
   count_rule (vector xs) = give (int (pos (length (list xs))))
   count_rule c = seq c (λ s. go count_from (int (pos 0) ∷ s ∷ []) give)
 
+  -- the count may not pass the greatest integer
   abbrev pub count_ends : ℤ → Round C
   count_ends n = cond (int_le n greatest) (ends_with (int n)) (fails Overflow)
 
@@ -128,6 +135,7 @@ module _ {C : Type 0} where
   vec_rule (vector xs) = give (vector xs)
   vec_rule c = gather [] c (λ xs. give_value (vector (values xs)))
 
+  -- a list, and `()` where there is no element
   abbrev pub reverse_rule : Value C → Plan C
   reverse_rule c = gather [] c (λ xs. give_value (list_of (reverse xs)))
 
@@ -143,6 +151,7 @@ module _ {C : Type 0} where
 
   -- ## doall, every?, some
 
+  -- walks the collection, and gives it
   abbrev pub doall_rule : Value C → Plan C
   doall_rule c = seq c (λ s. go doall_from (c ∷ s ∷ []) give)
 
@@ -151,6 +160,7 @@ module _ {C : Type 0} where
   doall_round (c ∷ s ∷ []) = round_at s (ends_with c) (visits (seq (rest_of s) (λ t. go doall_from (c ∷ t ∷ []) give)))
   doall_round _ = fails BadType
 
+  -- `every?`: true or false
   abbrev pub every_call : List (Value C) → Plan C
   every_call (p ∷ c ∷ []) = seq c (λ s. go every_from (p ∷ s ∷ []) give)
   every_call _ = throw Arity
@@ -163,6 +173,7 @@ module _ {C : Type 0} where
       (visits (call p (first_of s ∷ []) (λ y. if_true y (seq (rest_of s) (λ t. go every_from (p ∷ t ∷ []) give)) (give (bool false)))))
   every_round _ = fails BadType
 
+  -- `some`: the first true answer, or nil
   abbrev pub some_call : List (Value C) → Plan C
   some_call (p ∷ c ∷ []) = seq c (λ s. go some_from (p ∷ s ∷ []) give)
   some_call _ = throw Arity
@@ -196,6 +207,7 @@ module _ {C : Type 0} where
   conj_rule (cell m) xs = seq (cell m) (λ s. conj_each s xs)
   conj_rule c xs = conj_each c xs
 
+  -- without arguments an empty vector; a collection alone is itself
   abbrev pub conj_call : List (Value C) → Plan C
   conj_call [] = give (vector no_values)
   conj_call (c ∷ []) = give c
