@@ -1,4 +1,6 @@
 pub mod AlikeNodes
+pub mod AlikeTests
+pub mod AlikeLists
 pub mod AlikePlans
 pub mod CursorLemmas
 pub mod Silences

@@ -8,7 +8,7 @@ use Rattle.seq_values.specs.Model.{Value, Term}
 
 -- The loops of the rules. What its variables are is said where a loop's round stands.
 pub data Loop : Type 0 where
-  nth_from last_from count_from vec_from reverse_from doall_from every_from some_from apply_from : Loop
+  nth_from last_from count_from gather_from doall_from every_from some_from : Loop
   equal_from reduce_from transduce_from enter_from complete_from : Loop
   drop_from drop_while_from parts_from pull_from ahead_from fold_from : Loop
   print_value print_rest : Loop

@@ -1,0 +1,5 @@
+pub mod AlikeWalks
+pub mod AlikeEqual
+pub mod AlikeCalls
+pub mod AlikeTerms
+pub mod AlikeTable
