@@ -1,3 +1,4 @@
 pub mod AlikeNodes
 pub mod AlikePlans
 pub mod Thens
+pub mod AlikeStages

@@ -1,0 +1,14 @@
+-- What holds of the rows, as statements. A renaming is given by a test that tells which cells are the same.
+use Rattle.std.specs.Prelude.{ℕ, Bool, List}
+use Rattle.seq_values.specs.declared.words.Builtin.{Builtin}
+use Rattle.seq_values.specs.Model.{Value}
+use Rattle.seq_plan.specs.Plan.{Loop}
+use Rattle.seq_plan.specs.Alike.{Tells, LikeList, LikePlan, LikeRound}
+use Rattle.xf_stages.specs.Table.{stage_call, pull_term, stage_round}
+
+-- the rows look at cells only to ask them: like arguments have like plans
+abbrev pub RowsRename : Type 0
+RowsRename = (test : ℕ → ℕ → Bool) (xs ys : List (Value ℕ)) → LikeList (Tells test) xs ys →
+    ((word : Builtin) → LikePlan (Tells test) (stage_call word xs) (stage_call word ys))
+    × ((size : ℕ) → LikePlan (Tells test) (pull_term size xs) (pull_term size ys))
+    × ((loop : Loop) → LikeRound (Tells test) (stage_round loop xs) (stage_round loop ys))
