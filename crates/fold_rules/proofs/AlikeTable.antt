@@ -60,20 +60,20 @@ module _ {C D : Type 0} {R : C → D → Type 0} where
       (like_make (like_term (like_item (like_vector (like-values (like-drop (length xs / 2) q))) (like_item like_int (like_item f (like_item r st))))) (λ m n c.
       like-fold_at_most times size f r st (like-take (length xs / 2) q) (λ v w a. like_ask c (λ v w b. like_call f (like_item a (like_item b like_end)) e)))))
 
-  like-fold_items : (size : ℤ) {f : Value C} {g : Value D} → Like R f g → {r : Value C} {s : Value D} → Like R r s → {us : List (Value C)} {vs : List (Value D)} → LikeList R us vs → {xs : List (Value C)} {ys : List (Value D)} → LikeList R xs ys → LikePlan R (fold_items size f r us xs) (fold_items size g s vs ys)
-  like-fold_items size f r st {xs = xs} {ys = ys} q =
+  like-fold_items : (size : ℤ) {f : Value C} {g : Value D} → Like R f g → {r : Value C} {s : Value D} → Like R r s → {us : List (Value C)} {vs : List (Value D)} → LikeList R us vs → {xs : List (Value C)} {ys : List (Value D)} → LikeList R xs ys → {k : Value C → Plan C} {h : Value D → Plan D} → ((v : Value C) (w : Value D) → Like R v w → LikePlan R (k v) (h w)) → LikePlan R (fold_items size f r us xs k) (fold_items size g s vs ys h)
+  like-fold_items size f r st {xs = xs} {ys = ys} q e =
       let same : length xs ≡ length ys = like-length q in
-      rw (← same) (like-fold_at_most (length xs) size f r st q (λ v w e. like_give e))
+      rw (← same) (like-fold_at_most (length xs) size f r st q e)
 
   like-fold_rule : (size : ℤ) {f : Value C} {g : Value D} → Like R f g → {r : Value C} {s : Value D} → Like R r s → {c : Value C} {d : Value D} → Like R c d → LikePlan R (fold_rule size f r c) (fold_rule size g s d)
   like-fold_rule size f r {c = c} {d = d} h =
       let same : can_split c ≡ can_split d = like-can_split h in
       rw (← same) (like-cond (can_split c)
-      (like-fold_items size f r (like-reducer_stages h) (like-items_of (like-bottom h)))
+      (like-fold_items size f r (like-reducer_stages h) (like-items_of (like-bottom h)) (λ v w e. like_give e))
       (like_call f like_end (λ v w i. like-reduce_rule r i h)))
 
   pub like-fold_term : {xs : List (Value C)} {ys : List (Value D)} → LikeList R xs ys → LikePlan R (fold_term xs) (fold_term ys)
-  like-fold_term (like_item (like_vector items) (like_item (like_int {n = size}) (like_item f (like_item r st)))) = like-fold_items size f r st (like-list items)
+  like-fold_term (like_item (like_vector items) (like_item (like_int {n = size}) (like_item f (like_item r st)))) = like-fold_items size f r st (like-list items) (λ v w e. like_give e)
   like-fold_term _ = like_throw
 
   like-reducer_call : (kind : FolderKind) {f : Value C} {g : Value D} → Like R f g → {c : Value C} {d : Value D} → Like R c d → LikePlan R (give_value (reducer kind f c)) (give_value (reducer kind g d))

@@ -86,19 +86,19 @@ module _ {C : Type 0} where
       ask m (λ right. call combine (left ∷ right ∷ []) k))))
 
   -- the action `fold`: items are halved fewer times than there are items
-  abbrev pub fold_items : ℤ → Value C → Value C → List (Value C) → List (Value C) → Plan C
-  fold_items size combine f stages items = fold_at_most (length items) size combine f stages items give
+  abbrev pub fold_items : ℤ → Value C → Value C → List (Value C) → List (Value C) → (Value C → Plan C) → Plan C
+  fold_items size combine f stages items k = fold_at_most (length items) size combine f stages items k
 
   -- `r/fold`: what can't be split is reduced from the combining function's first answer. Source: clojure.core.reducers' `fold`.
   abbrev pub fold_rule : ℤ → Value C → Value C → Value C → Plan C
   fold_rule size combine f c =
       cond (can_split c)
-      (fold_items size combine f (reducer_stages c) (items_of (bottom c)))
+      (fold_items size combine f (reducer_stages c) (items_of (bottom c)) give)
       (call combine [] (λ init. reduce_rule f init c))
 
   -- the future Fold: the vector of its items, the size of a group, the combining and the reducing function, and the stages
   abbrev pub fold_term : List (Value C) → Plan C
-  fold_term (vector items ∷ int size ∷ combine ∷ f ∷ stages) = fold_items size combine f stages (list items)
+  fold_term (vector items ∷ int size ∷ combine ∷ f ∷ stages) = fold_items size combine f stages (list items) give
   fold_term _ = throw BadType
 
   -- ## The words

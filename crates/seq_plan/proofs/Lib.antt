@@ -2,3 +2,4 @@ pub mod AlikeNodes
 pub mod AlikePlans
 pub mod Thens
 pub mod AlikeStages
+pub mod StageLoops

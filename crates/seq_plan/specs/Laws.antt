@@ -1,8 +1,9 @@
 -- What holds of plans and of nodes, as statements. A renaming is given by a test that tells which cells are the same.
-use Rattle.std.specs.Prelude.{◌≡◌, ℕ, Bool}
-use Rattle.seq_values.specs.Model.{Value}
+use Rattle.std.specs.Prelude.{◌≡◌, ℕ, Bool, List, ◌∷◌}
+use Rattle.seq_values.specs.Model.{Value, vector, values}
 use Rattle.seq_plan.specs.Plan.{Plan, then, give}
 use Rattle.seq_plan.specs.Nodes.{depth, first_of, rests_of}
+use Rattle.seq_plan.specs.Stages.{Sink, Onward, sink_values, standing, entered, each_round, enter_round}
 use Rattle.seq_plan.specs.Alike.{Tells, Like, LikePlan}
 
 -- what goes on after two plans may be joined in either order, and a value that is given goes straight on
@@ -26,3 +27,11 @@ LikeRests = (test : ℕ → ℕ → Bool) (n : ℕ) (v w : Value ℕ) → Like (
 -- like plans that go on alike are alike
 abbrev pub LikeThen : Type 0
 LikeThen = (test : ℕ → ℕ → Bool) (p q : Plan ℕ) (f g : Value ℕ → Plan ℕ) → LikePlan (Tells test) p q → ((v w : Value ℕ) → Like (Tells test) v w → LikePlan (Tells test) (f v) (g w)) → LikePlan (Tells test) (then p f) (then q g)
+
+-- what the loop of stages gives is handed on as it is
+abbrev pub StandingEnters : Type 0
+StandingEnters = (k : Onward ℕ) (states : List (Value ℕ)) (sink : Sink ℕ) (done : Bool) → entered k (standing states sink done) ≡ k states sink done
+
+-- and a round of it has the variables with which it began
+abbrev pub RoundIsOfEach : Type 0
+RoundIsOfEach = (stages states : List (Value ℕ)) (s : Value ℕ) (sink : Sink ℕ) → enter_round (vector (values stages) ∷ vector (values states) ∷ s ∷ sink_values sink) ≡ each_round stages states sink s

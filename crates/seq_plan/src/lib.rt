@@ -1,7 +1,7 @@
 //! The plan of a work, what the rules say of nodes, and likeness. Each function states a law over the definitions.
 #![tactic(auto)]
 
-ghost use Rattle.seq_plan.specs.Laws.{ThenJoins, ThenGives, LikeIsAsDeep, LikeFirsts, LikeRests, LikeThen};
+ghost use Rattle.seq_plan.specs.Laws.{ThenJoins, ThenGives, LikeIsAsDeep, LikeFirsts, LikeRests, LikeThen, StandingEnters, RoundIsOfEach};
 
 /// What goes on after two plans may be joined in either order.
 pub fn law_then_joins()
@@ -31,4 +31,14 @@ pub fn law_like_rests()
 /// Like plans that go on alike are alike.
 pub fn law_like_then()
     ensures { LikeThen }
+{}
+
+/// What the loop of stages gives is handed on as it is.
+pub fn law_standing_enters()
+    ensures { StandingEnters }
+{}
+
+/// A round of the loop of stages has the variables with which the loop began.
+pub fn law_round_is_of_each()
+    ensures { RoundIsOfEach }
 {}

@@ -84,6 +84,8 @@ module _ {C : Type 0} where
   stage_call B.Transduce (xf ∷ f ∷ init ∷ c ∷ []) = with_stages xf (λ stages. transduce_rule stages f init c)
   stage_call B.Into (to ∷ xf ∷ c ∷ []) = with_stages xf (λ stages. transduce_rule stages (function (T.Builtin B.Conj) no_values) to c)
   stage_call B.Sequence (xf ∷ c ∷ []) = with_stages xf (λ stages. make_pull xf (fresh stages) c (λ m. give (cell m)))
+  -- the transducer `cat` isn't called
+  stage_call B.Cat _ = throw BadType
   stage_call _ _ = throw Arity
 
   -- ## The loops
