@@ -11,7 +11,7 @@ use Rattle.seq_plan.specs.Alike.{Like, like_nil, like_bool, like_int, like_keywo
 use Rattle.seq_plan.proofs.AlikeNodes.{like-list, like-values, like-append, like-length, like-take, like-drop, like-cond, like-give_value}
 use Rattle.seq_plan.proofs.AlikeStages.{like_reduces, like-fresh, like-answer_of, like-enter_each}
 use Rattle.seq_plan.specs.Nodes.{give_value}
-use Rattle.fold_rules.specs.Table.{reducer, bottom, reducer_stage, reducer_stages, reduce_through, reduce_rule, can_split, items_of, fold_group, fold_at_most, fold_items, fold_rule, fold_term, fold_call}
+use Rattle.fold_rules.specs.Table.{reducer, bottom, reducer_stage, reducer_stages, reduce_through, reduce_rule, can_split, items_of, fold_group, fold_at_most, fold_items, fold_rule, fold_term, take_of, fold_in, fold_call}
 
 module _ {C D : Type 0} {R : C → D → Type 0} where
   like-bottom : {v : Value C} {w : Value D} → Like R v w → Like R (bottom v) (bottom w)
@@ -79,19 +79,25 @@ module _ {C D : Type 0} {R : C → D → Type 0} where
   like-reducer_call : (kind : FolderKind) {f : Value C} {g : Value D} → Like R f g → {c : Value C} {d : Value D} → Like R c d → LikePlan R (give_value (reducer kind f c)) (give_value (reducer kind g d))
   like-reducer_call kind f c = like-give_value (like_function (like_more f (like_more c like_none)))
 
+  like-take_of : {n : Value C} {m : Value D} → Like R n m → {c : Value C} {d : Value D} → Like R c d → LikePlan R (take_of n c) (take_of m d)
+  like-take_of like_int c = like-reducer_call F.Take like_int c
+  like-take_of _ c = like_throw
+
+  like-fold_in : {n : Value C} {m : Value D} → Like R n m → {f : Value C} {g : Value D} → Like R f g → {r : Value C} {s : Value D} → Like R r s → {c : Value C} {d : Value D} → Like R c d → LikePlan R (fold_in n f r c) (fold_in m g s d)
+  like-fold_in (like_int {n = n}) f r c = like-cond (int_le (pos 1) n) (like-fold_rule n f r c) like_throw
+  like-fold_in _ f r c = like_throw
+
   pub like-fold_call : (word : Builtin) {xs : List (Value C)} {ys : List (Value D)} → LikeList R xs ys → LikePlan R (fold_call word xs) (fold_call word ys)
   like-fold_call B.ReducerMap (like_item f (like_item c like_end)) = like-reducer_call F.Map f c
   like-fold_call B.ReducerFilter (like_item f (like_item c like_end)) = like-reducer_call F.Filter f c
   like-fold_call B.ReducerRemove (like_item f (like_item c like_end)) = like-reducer_call F.Remove f c
   like-fold_call B.ReducerMapcat (like_item f (like_item c like_end)) = like-reducer_call F.Mapcat f c
-  like-fold_call B.ReducerTake (like_item (like_int {n = n}) (like_item c like_end)) = like-reducer_call F.Take like_int c
-  like-fold_call B.ReducerTake (like_item _ (like_item _ like_end)) = like_throw
+  like-fold_call B.ReducerTake (like_item n (like_item c like_end)) = like-take_of n c
   like-fold_call B.ReducerTakeWhile (like_item f (like_item c like_end)) = like-reducer_call F.TakeWhile f c
   like-fold_call B.Reduce (like_item f (like_item c like_end)) = like_call f like_end (λ v w i. like-reduce_rule f i c)
   like-fold_call B.Reduce (like_item f (like_item i (like_item c like_end))) = like-reduce_rule f i c
   like-fold_call B.Into (like_item to (like_item c like_end)) = like-reduce_rule (like_function like_none) to c
   like-fold_call B.Fold (like_item f (like_item c like_end)) = like-fold_rule (pos 512) f f c
   like-fold_call B.Fold (like_item f (like_item r (like_item c like_end))) = like-fold_rule (pos 512) f r c
-  like-fold_call B.Fold (like_item (like_int {n = n}) (like_item f (like_item r (like_item c like_end)))) = like-cond (int_le (pos 1) n) (like-fold_rule n f r c) like_throw
-  like-fold_call B.Fold (like_item _ (like_item _ (like_item _ (like_item _ like_end)))) = like_throw
+  like-fold_call B.Fold (like_item n (like_item f (like_item r (like_item c like_end)))) = like-fold_in n f r c
   like-fold_call _ _ = like_throw

@@ -103,20 +103,28 @@ module _ {C : Type 0} where
 
   -- ## The words
 
+  -- `r/take` takes an integer
+  abbrev pub take_of : Value C → Value C → Plan C
+  take_of (int n) c = give_value (reducer F.Take (int n) c)
+  take_of _ c = throw BadType
+
+  -- the size of a group is an integer of at least 1
+  abbrev pub fold_in : Value C → Value C → Value C → Value C → Plan C
+  fold_in (int size) combine f c = cond (int_le (pos 1) size) (fold_rule size combine f c) (throw Index)
+  fold_in _ combine f c = throw BadType
+
   -- The size of a group is 512 where none is given. `reduce`, and `into` without a transducer, stand here for a reducer value as collection; `into` is `reduce` by `conj`. Sources: clojure.core.reducers' `map`, `filter`, `remove`, `mapcat`, `take`, `take-while` and `fold`, clojure.core's `reduce` and `into`.
   abbrev pub fold_call : Builtin → List (Value C) → Plan C
   fold_call B.ReducerMap (f ∷ c ∷ []) = give_value (reducer F.Map f c)
   fold_call B.ReducerFilter (p ∷ c ∷ []) = give_value (reducer F.Filter p c)
   fold_call B.ReducerRemove (p ∷ c ∷ []) = give_value (reducer F.Remove p c)
   fold_call B.ReducerMapcat (f ∷ c ∷ []) = give_value (reducer F.Mapcat f c)
-  fold_call B.ReducerTake (int n ∷ c ∷ []) = give_value (reducer F.Take (int n) c)
-  fold_call B.ReducerTake (_ ∷ _ ∷ []) = throw BadType
+  fold_call B.ReducerTake (n ∷ c ∷ []) = take_of n c
   fold_call B.ReducerTakeWhile (p ∷ c ∷ []) = give_value (reducer F.TakeWhile p c)
   fold_call B.Reduce (f ∷ c ∷ []) = call f [] (λ init. reduce_rule f init c)
   fold_call B.Reduce (f ∷ init ∷ c ∷ []) = reduce_rule f init c
   fold_call B.Into (to ∷ c ∷ []) = reduce_rule (function (T.Builtin B.Conj) no_values) to c
   fold_call B.Fold (f ∷ c ∷ []) = fold_rule (pos 512) f f c
   fold_call B.Fold (combine ∷ f ∷ c ∷ []) = fold_rule (pos 512) combine f c
-  fold_call B.Fold (int n ∷ combine ∷ f ∷ c ∷ []) = cond (int_le (pos 1) n) (fold_rule n combine f c) (throw Index)
-  fold_call B.Fold (_ ∷ _ ∷ _ ∷ _ ∷ []) = throw BadType
+  fold_call B.Fold (n ∷ combine ∷ f ∷ c ∷ []) = fold_in n combine f c
   fold_call _ _ = throw Arity

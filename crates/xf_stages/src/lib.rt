@@ -2,8 +2,49 @@
 #![tactic(auto)]
 
 ghost use Rattle.xf_stages.specs.Laws.{RowsRename};
+ghost use Rattle.xf_stages.specs.Worked.{Compositions, Passed, Taken, Dropped, Joined, Grouped, Kept, Words};
 
 /// Like arguments have like plans: the rows look at cells only to ask them.
 pub fn law_rows_rename()
     ensures { RowsRename }
+{}
+
+/// Which values are transducers, and their stages in order.
+pub fn worked_compositions()
+    ensures { Compositions }
+{}
+
+/// An input through `map`, `filter`, `remove` and `keep`.
+pub fn worked_passed()
+    ensures { Passed }
+{}
+
+/// An input at `take` and `take-while`.
+pub fn worked_taken()
+    ensures { Taken }
+{}
+
+/// An input at `drop` and `drop-while`.
+pub fn worked_dropped()
+    ensures { Dropped }
+{}
+
+/// An input at `mapcat` and `cat`.
+pub fn worked_joined()
+    ensures { Joined }
+{}
+
+/// Inputs at `partition-all`, and its completion.
+pub fn worked_grouped()
+    ensures { Grouped }
+{}
+
+/// The states that a pull keeps.
+pub fn worked_kept()
+    ensures { Kept }
+{}
+
+/// What the words throw, and the part that `sequence` makes.
+pub fn worked_words()
+    ensures { Words }
 {}
