@@ -3,3 +3,4 @@ pub mod AlikePlans
 pub mod Thens
 pub mod AlikeStages
 pub mod StageLoops
+pub mod StageThens

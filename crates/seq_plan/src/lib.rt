@@ -1,7 +1,7 @@
 //! The plan of a work, what the rules say of nodes, and likeness. Each function states a law over the definitions.
 #![tactic(auto)]
 
-ghost use Rattle.seq_plan.specs.Laws.{ThenJoins, ThenGives, LikeIsAsDeep, LikeFirsts, LikeRests, LikeThen, StandingEnters, RoundIsOfEach};
+ghost use Rattle.seq_plan.specs.Laws.{ThenJoins, ThenGives, LikeIsAsDeep, LikeFirsts, LikeRests, LikeThen, StandingEnters, RoundIsOfEach, ThenEnters, ThenCompletes};
 
 /// What goes on after two plans may be joined in either order.
 pub fn law_then_joins()
@@ -41,4 +41,14 @@ pub fn law_standing_enters()
 /// A round of the loop of stages has the variables with which the loop began.
 pub fn law_round_is_of_each()
     ensures { RoundIsOfEach }
+{}
+
+/// What goes on after an input has entered stages goes on after each of its ends.
+pub fn law_then_enters()
+    ensures { ThenEnters }
+{}
+
+/// What goes on after the completion of stages goes on after each of its ends.
+pub fn law_then_completes()
+    ensures { ThenCompletes }
 {}

@@ -1,1 +1,2 @@
 pub mod AlikeTable
+pub mod KeptStates

@@ -1,12 +1,17 @@
 //! The stages of transducers: the rows of `transduce`, `into` with a transducer and `sequence`.
 #![tactic(auto)]
 
-ghost use Rattle.xf_stages.specs.Laws.{RowsRename};
+ghost use Rattle.xf_stages.specs.Laws.{RowsRename, PullGoesOn};
 ghost use Rattle.xf_stages.specs.Worked.{Compositions, Passed, Taken, Dropped, Joined, Grouped, Kept, Words};
 
 /// Like arguments have like plans: the rows look at cells only to ask them.
 pub fn law_rows_rename()
     ensures { RowsRename }
+{}
+
+/// A pull goes on with the states with which the one before it stopped.
+pub fn law_pull_goes_on()
+    ensures { PullGoesOn }
 {}
 
 /// Which values are transducers, and their stages in order.
