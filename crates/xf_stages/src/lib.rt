@@ -1,7 +1,7 @@
 //! The stages of transducers: the rows of `transduce`, `into` with a transducer and `sequence`.
 #![tactic(auto)]
 
-ghost use Rattle.xf_stages.specs.Laws.{RowsRename, PullGoesOn};
+ghost use Rattle.xf_stages.specs.Laws.{RowsRename, PullGoesOn, StagesAreLimited};
 ghost use Rattle.xf_stages.specs.Worked.{Compositions, Passed, Taken, Dropped, Joined, Grouped, Kept, Words};
 
 /// Like arguments have like plans: the rows look at cells only to ask them.
@@ -12,6 +12,11 @@ pub fn law_rows_rename()
 /// A pull goes on with the states with which the one before it stopped.
 pub fn law_pull_goes_on()
     ensures { PullGoesOn }
+{}
+
+/// What is no transducer, and a transducer of too many stages, is refused each by its error.
+pub fn law_stages_are_limited()
+    ensures { StagesAreLimited }
 {}
 
 /// Which values are transducers, and their stages in order.
