@@ -1,5 +1,5 @@
 -- The rows look at cells only to ask them.
-use Rattle.std.proofs.Common.{◌≡◌, ℕ, zero, suc, ◌/◌, ℤ, pos, int_le, Bool, true, false, cond, List, [], ◌∷◌, length, take, drop, refl}
+use Rattle.std.proofs.Common.{◌≡◌, ℕ, zero, suc, ◌/◌, ℤ, pos, int_le, List, length, refl}
 use Rattle.seq_values.specs.declared.words.Builtin.{Builtin}
 use Rattle.seq_values.specs.declared.words.Builtin.TheVariants as B
 use Rattle.seq_values.specs.declared.words.FolderKind.{FolderKind}
@@ -7,7 +7,7 @@ use Rattle.seq_values.specs.declared.words.FolderKind.TheVariants as F
 use Rattle.seq_values.specs.declared.words.Target.TheVariants as T
 use Rattle.seq_values.specs.Model.{Value}
 use Rattle.seq_plan.specs.Plan.{Plan}
-use Rattle.seq_plan.specs.Alike.{Like, like_nil, like_bool, like_int, like_keyword, like_text, like_vector, like_function, like_reduced, like_cell, like_empty, like_cons, like_chunk, like_range, like_vec_seq, like_none, like_more, LikeList, like_end, like_item, like_term, LikePlan, like_ask, like_call, like_make, like_give, like_throw}
+use Rattle.seq_plan.specs.Alike.{Like, like_int, like_vector, like_function, like_none, like_more, LikeList, like_end, like_item, like_term, LikePlan, like_ask, like_call, like_make, like_give, like_throw}
 use Rattle.seq_plan.proofs.AlikeNodes.{like-list, like-values, like-append, like-length, like-take, like-drop, like-cond, like-give_value}
 use Rattle.seq_plan.proofs.AlikeStages.{like_reduces, like-fresh, like-answer_of, like-enter_each}
 use Rattle.seq_plan.specs.Nodes.{give_value}

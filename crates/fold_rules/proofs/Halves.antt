@@ -1,5 +1,5 @@
 -- The number that bounds how often items are halved is never reached.
-use Rattle.std.proofs.Common.{◌≡◌, ℕ, zero, suc, ◌≤◌, ◌<◌, ◌/◌, pos, int_le, Bool, true, false, cond, List, [], ◌∷◌, length, take, drop, refl, ap, sym, ◌∙◌, arith}
+use Rattle.std.proofs.Common.{◌≡◌, ℕ, zero, suc, ◌≤◌, ◌<◌, ◌/◌, pos, int_le, true, false, cond, List, [], ◌∷◌, length, take, drop, refl, ap, sym, ◌∙◌, arith}
 use Rattle.std.proofs.Math.Arith.{half_le}
 use Rattle.std.proofs.lemmas.Bool.Decides.{nat_tests}
 use Rattle.std.proofs.lemmas.Int.{ints}
@@ -9,7 +9,7 @@ use Rattle.seq_values.specs.declared.words.Op.TheVariants as O
 use Rattle.seq_values.specs.Model.{Value, int, vector, values}
 use Rattle.seq_plan.specs.Plan.{Plan, ask, call}
 use Rattle.seq_plan.specs.Nodes.{make_term}
-use Rattle.fold_rules.specs.Table.{fold_group, fold_at_most, fold_items}
+use Rattle.fold_rules.specs.Table.{fold_group, fold_at_most}
 use Rattle.fold_rules.specs.Laws.{FoldsAGroup, FoldsHalves}
 
 within : (a b : ℕ) → a ≤ b → int_le (pos a) (pos b) ≡ true

@@ -26,4 +26,4 @@ FoldsHalves = (size : ℕ) (combine f : Value ℕ) (stages items : List (Value �
     let half = length items / 2 in
     fold_items (pos size) combine f stages items k
     ≡ make_term Future O.Fold (vector (values (drop half items)) ∷ int (pos size) ∷ combine ∷ f ∷ stages) (λ m.
-      fold_items (pos size) combine f stages (take half items) (λ left. ask m (λ right. call combine (left ∷ right ∷ []) k)))
+    fold_items (pos size) combine f stages (take half items) (λ left. ask m (λ right. call combine (left ∷ right ∷ []) k)))

@@ -1,5 +1,5 @@
 -- Worked rows of reducer values and of `fold`. Each is a computation over the rules.
-use Rattle.std.specs.Prelude.{◌≡◌, ℕ, pos, Bool, true, false, List, [], ◌∷◌}
+use Rattle.std.specs.Prelude.{◌≡◌, ℕ, pos, true, false, [], ◌∷◌}
 use Rattle.seq_base.specs.declared.thrown.Thrown.TheVariants.{Arity, BadType, Index}
 use Rattle.seq_values.specs.declared.words.Builtin.TheVariants as B
 use Rattle.seq_values.specs.declared.words.FolderKind.TheVariants as F
@@ -7,7 +7,7 @@ use Rattle.seq_values.specs.declared.words.Kind.TheVariants.{Future}
 use Rattle.seq_values.specs.declared.words.Op.TheVariants as O
 use Rattle.seq_values.specs.declared.words.Target.TheVariants as T
 use Rattle.seq_values.specs.declared.words.XfKind.TheVariants as X
-use Rattle.seq_values.specs.Model.{Value, nil, int, vector, function, no_values, ◌&◌, values}
+use Rattle.seq_values.specs.Model.{Value, nil, int, vector, function, no_values, ◌&◌}
 use Rattle.seq_plan.specs.Plan.{Plan, ask, call, give, throw}
 use Rattle.seq_plan.specs.Nodes.{make_term}
 use Rattle.seq_plan.specs.Stages.{gathers, Onward, enter}
@@ -36,7 +36,7 @@ Taken =
 abbrev pub Folded : Type 0
 Folded = (combine f a b c : Value ℕ) (k : Value ℕ → Plan ℕ) →
     (fold_items (pos 1) combine f [] (a ∷ b ∷ c ∷ []) k
-        ≡ make_term Future O.Fold (vector (b & c & no_values) ∷ number 1 ∷ combine ∷ f ∷ []) (λ m. fold_group combine f [] (a ∷ []) (λ left. ask m (λ right. call combine (left ∷ right ∷ []) k))))
+    ≡ make_term Future O.Fold (vector (b & c & no_values) ∷ number 1 ∷ combine ∷ f ∷ []) (λ m. fold_group combine f [] (a ∷ []) (λ left. ask m (λ right. call combine (left ∷ right ∷ []) k))))
     × (fold_items (pos 1) combine f [] [] k ≡ call combine [] k)
 
 -- what the words throw

@@ -1,12 +1,12 @@
 -- Stages do alike with like inputs.
-use Rattle.std.proofs.Common.{◌≡◌, ℤ, pos, ◌-ℤ◌, int_le, Bool, true, false, cond, ◌&&◌, List, [], ◌∷◌, ◌++◌, map, length, refl, ap}
+use Rattle.std.proofs.Common.{◌≡◌, ℤ, pos, ◌-ℤ◌, int_le, Bool, true, false, cond, List, length, refl}
 use Rattle.seq_values.specs.declared.words.Builtin.TheVariants as B
 use Rattle.seq_values.specs.declared.words.Target.{Target}
 use Rattle.seq_values.specs.declared.words.Target.TheVariants as T
 use Rattle.seq_values.specs.declared.words.XfKind.TheVariants as X
 use Rattle.seq_values.specs.declared.words.FolderKind.TheVariants as F
-use Rattle.seq_values.specs.Model.{Value, vector, Values, no_values, ◌&◌, list, values}
-use Rattle.seq_plan.specs.Plan.{Plan, give, Round}
+use Rattle.seq_values.specs.Model.{Value, vector, Values, no_values}
+use Rattle.seq_plan.specs.Plan.{Plan}
 use Rattle.seq_plan.specs.Alike.{Like, like_nil, like_bool, like_int, like_vector, like_function, like_reduced, LikeAll, like_none, like_more, LikeList, like_end, like_item, LikePlan, like_seq, like_call, like_go, like_give, like_throw, LikeRound, like_ends_with, like_fails, like_visits}
 use Rattle.seq_plan.specs.Stages.{Effect, passes, passes_last, passes_each, passes_nothing, is_done, Sink, reduces, gathers, Onward, is_transducer, are_transducers, stages_of, stages_of_all, with_stages, begins_with, fresh, take_one, group_one, on_input, stage_on, is_reduced, unwrapped, output, sink_values, answer_of, outputs_of, standing, entered, each_from, enter_each, with_state, with_last, by_effect, enter, each_round, enter_round, complete}
 use Rattle.seq_plan.proofs.AlikeNodes.{like-list, like-values, like-append, like-length, like-cond, like-if_nil, like-if_true, like-round_at, like-first_of, like-rest_of, like-with_value, like-with_members}

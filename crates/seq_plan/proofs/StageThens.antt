@@ -5,10 +5,10 @@ use Rattle.seq_values.specs.declared.words.Target.{Target}
 use Rattle.seq_values.specs.declared.words.Target.TheVariants as T
 use Rattle.seq_values.specs.declared.words.XfKind.TheVariants as X
 use Rattle.seq_values.specs.declared.words.FolderKind.TheVariants as F
-use Rattle.seq_values.specs.Model.{Value, nil, bool, int, vector, function, Values, no_values, ◌&◌, list, values}
+use Rattle.seq_values.specs.Model.{Value, bool, int, vector, function, no_values, ◌&◌, list, values}
 use Rattle.seq_plan.specs.Plan.{Plan, seq, call, throw, then}
-use Rattle.seq_plan.specs.Nodes.{holds, is_nil, if_nil, if_true, with_value, with_members, depth, deepest, longest}
-use Rattle.seq_plan.specs.Stages.{Effect, passes, passes_last, passes_each, passes_nothing, is_done, Sink, reduces, gathers, Onward, take_one, group_one, on_input, stage_on, is_reduced, unwrapped, output, standing, entered, each_from, enter_each, with_state, with_last, by_effect, enter, complete}
+use Rattle.seq_plan.specs.Nodes.{holds, is_nil, if_nil, if_true, with_value, depth, deepest, longest}
+use Rattle.seq_plan.specs.Stages.{Effect, passes, passes_last, passes_each, passes_nothing, is_done, Sink, reduces, gathers, Onward, take_one, group_one, on_input, stage_on, output, entered, each_from, enter_each, with_state, with_last, by_effect, enter, complete}
 
 module _ {C : Type 0} (h : Value C → Plan C) where
   -- the same, and then h
@@ -96,10 +96,10 @@ module _ {C : Type 0} (h : Value C → Plan C) where
   then_enter (stage ∷ later) (state ∷ states) sink x k =
       then_stage_on stage state x (λ new. by_effect (λ y. enter later states sink y (with_state new k)) (λ y. enter later states sink y (with_last new k)) (λ c. enter_each later states sink c (with_state new k)) (k (new ∷ states) sink false) (k (new ∷ states) sink true))
       ∙ (λ i. stage_on stage state x (λ new e. then_by_effect
-          (λ y. enter later states sink y (with_state new k)) (λ y. enter later states sink y (with_last new k)) (λ c. enter_each later states sink c (with_state new k))
-          (k (new ∷ states) sink false) (k (new ∷ states) sink true)
-          (λ y. enter later states sink y (with_state new (before k))) (λ y. enter later states sink y (with_last new (before k))) (λ c. enter_each later states sink c (with_state new (before k)))
-          (λ y. then_enter later states sink y (with_state new k)) (λ y. then_enter later states sink y (with_last new k)) (λ c. then_enter_each later states sink c (with_state new k)) e i))
+      (λ y. enter later states sink y (with_state new k)) (λ y. enter later states sink y (with_last new k)) (λ c. enter_each later states sink c (with_state new k))
+      (k (new ∷ states) sink false) (k (new ∷ states) sink true)
+      (λ y. enter later states sink y (with_state new (before k))) (λ y. enter later states sink y (with_last new (before k))) (λ c. enter_each later states sink c (with_state new (before k)))
+      (λ y. then_enter later states sink y (with_state new k)) (λ y. then_enter later states sink y (with_last new k)) (λ c. then_enter_each later states sink c (with_state new k)) e i))
   then_enter (stage ∷ later) [] sink x k = refl
 
   pub then_complete : (stages states : List (Value C)) (sink : Sink C) (k : Sink C → Plan C) → then (complete stages states sink k) h ≡ complete stages states sink (λ after. then (k after) h)

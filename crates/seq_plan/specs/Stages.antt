@@ -195,7 +195,7 @@ module _ {C : Type 0} where
       round_at s
       (ends_with (standing states sink false))
       (visits (enter stages states sink (first_of s) (λ new after done.
-          cond done (give (standing new after true)) (seq (rest_of s) (λ t. each_from stages new after t give)))))
+      cond done (give (standing new after true)) (seq (rest_of s) (λ t. each_from stages new after t give)))))
 
   -- its variables: the stages, their states, the seq and the sink
   abbrev pub enter_round : List (Value C) → Round C

@@ -1,12 +1,12 @@
 -- The rows look at cells only to ask them.
-use Rattle.std.proofs.Common.{◌≡◌, ℕ, ℤ, pos, int_le, Bool, true, false, cond, List, [], ◌∷◌, length}
+use Rattle.std.proofs.Common.{◌≡◌, ℕ, ℤ, pos, int_le, Bool, true, false, cond, List, length}
 use Rattle.seq_values.specs.declared.words.Builtin.{Builtin}
 use Rattle.seq_values.specs.declared.words.Builtin.TheVariants as B
-use Rattle.seq_values.specs.Model.{Value, values}
+use Rattle.seq_values.specs.Model.{Value}
 use Rattle.seq_plan.specs.Plan.{Plan, Loop, enter_from, pull_from}
 use Rattle.seq_plan.specs.Alike.{Like, like_nil, like_bool, like_int, like_vector, like_function, like_cell, like_empty, like_chunk, like_none, like_more, LikeList, like_end, like_item, like_term, LikePlan, like_seq, like_call, like_go, like_make, like_give, like_throw, LikeRound, like_ends_with, like_fails, like_visits}
 use Rattle.seq_plan.proofs.AlikeNodes.{like-list, like-values, like-length, like-cond, like-round_at, like-first_of, like-rest_of, like-give_value, like-with_members}
-use Rattle.seq_plan.proofs.AlikeStages.{LikeSink, like_reduces, like_gathers, like-with_stages, like-fresh, like-answer_of, like-outputs_of, like-enter, like-enter_each, like-enter_round, like-complete}
+use Rattle.seq_plan.proofs.AlikeStages.{like_reduces, like_gathers, like-with_stages, like-fresh, like-answer_of, like-outputs_of, like-enter, like-enter_each, like-enter_round, like-complete}
 use Rattle.xf_stages.specs.Table.{transduce_rule, kept, replaced, make_pull, pulled, pull_round, last_outputs, after_pull, pull_term, stage_call, stage_round}
 
 module _ {C D : Type 0} {R : C → D → Type 0} where
@@ -40,11 +40,11 @@ module _ {C D : Type 0} {R : C → D → Type 0} where
   like-pull_round (like_item (like_int {n = size}) (like_item (like_vector p) (like_item (like_vector q) (like_item (like_vector r) (like_item s like_end))))) = like-round_at s
       (like_ends_with (like-pulled true (like-list q) (like-list r) like_nil))
       (like_visits (like-enter (like-list p) (like-list q) (like_gathers (like-list r)) (like-first_of s) (λ us vs q a b r done.
-          like-cond done
-          (like_give (like-pulled true q (like-outputs_of r) like_nil))
-          (like-enough size (like-outputs_of r)
-          (like_give (like-pulled false q (like-outputs_of r) (like-rest_of s)))
-          (like_seq (like-rest_of s) (λ v w e. like_go (like_item like_int (like_item (like_vector p) (like_item (like_vector (like-values q)) (like_item (like_vector (like-values (like-outputs_of r))) (like_item e like_end))))) (λ v w e. like_give e)))))))
+      like-cond done
+      (like_give (like-pulled true q (like-outputs_of r) like_nil))
+      (like-enough size (like-outputs_of r)
+      (like_give (like-pulled false q (like-outputs_of r) (like-rest_of s)))
+      (like_seq (like-rest_of s) (λ v w e. like_go (like_item like_int (like_item (like_vector p) (like_item (like_vector (like-values q)) (like_item (like_vector (like-values (like-outputs_of r))) (like_item e like_end))))) (λ v w e. like_give e)))))))
   like-pull_round _ = like_fails
 
   like-last_outputs : {xs : List (Value C)} {ys : List (Value D)} → LikeList R xs ys → LikePlan R (last_outputs xs) (last_outputs ys)

@@ -1,5 +1,5 @@
 -- The states that a pull keeps are those that the next one begins with.
-use Rattle.std.proofs.Common.{◌≡◌, ℕ, Bool, true, false, List, [], ◌∷◌, refl, ap, ◌∙◌}
+use Rattle.std.proofs.Common.{◌≡◌, ℕ, false, List, ◌∷◌, refl, ap, ◌∙◌}
 use Rattle.seq_values.specs.Model.{Value, nil}
 use Rattle.seq_plan.specs.Nodes.{is_nil}
 use Rattle.xf_stages.specs.Table.{kept, replaced}

@@ -1,11 +1,10 @@
 -- How many stages a transducer may have.
-use Rattle.std.proofs.Common.{◌≡◌, ℕ, ◌≤◌, ◌<◌, nat_le, Bool, true, false, cond, List, length, ap, ◌∙◌, arith}
+use Rattle.std.proofs.Common.{◌≡◌, ℕ, ◌≤◌, ◌<◌, nat_le, Bool, true, false, cond, length, ap, ◌∙◌, arith}
 use Rattle.std.proofs.lemmas.Bool.Decides.{nat_tests}
 use Rattle.seq_base.specs.declared.thrown.Thrown.TheVariants.{Overflow, BadType}
-use Rattle.seq_values.specs.Model.{Value}
 use Rattle.seq_plan.specs.Plan.{Plan, throw}
 use Rattle.seq_plan.specs.Nodes.{longest, with_members}
-use Rattle.seq_plan.specs.Stages.{is_transducer, stages_of, with_stages}
+use Rattle.seq_plan.specs.Stages.{stages_of}
 use Rattle.xf_stages.specs.Laws.{StagesAreLimited}
 
 within : (n : ℕ) → n ≤ longest → nat_le n longest ≡ true

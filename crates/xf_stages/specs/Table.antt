@@ -1,6 +1,6 @@
 -- The rows of what runs the stages of a transducer: `transduce`, `into` with a transducer, `sequence` and its term Pull.
 -- https://clojure.org/reference/transducers
-use Rattle.std.specs.Prelude.{ℕ, ℤ, pos, int_le, Bool, true, false, cond, List, [], ◌∷◌, length}
+use Rattle.std.specs.Prelude.{ℕ, pos, int_le, Bool, true, false, cond, List, [], ◌∷◌, length}
 use Rattle.seq_base.specs.declared.thrown.Thrown.TheVariants.{Arity, BadType}
 use Rattle.seq_values.specs.declared.words.Builtin.{Builtin}
 use Rattle.seq_values.specs.declared.words.Builtin.TheVariants as B
@@ -10,7 +10,7 @@ use Rattle.seq_values.specs.declared.words.Target.TheVariants as T
 use Rattle.seq_values.specs.Model.{Value, nil, bool, int, vector, function, cell, empty, chunk, no_values, ◌&◌, list, values}
 use Rattle.seq_plan.specs.Plan.{Plan, seq, call, go, give, throw, Loop, enter_from, pull_from, Round, ends_with, fails, visits}
 use Rattle.seq_plan.specs.Nodes.{first_of, rest_of, round_at, give_value, with_members, make_term}
-use Rattle.seq_plan.specs.Stages.{Sink, reduces, gathers, with_stages, fresh, answer_of, outputs_of, enter, enter_each, enter_round, complete}
+use Rattle.seq_plan.specs.Stages.{reduces, gathers, with_stages, fresh, answer_of, outputs_of, enter, enter_each, enter_round, complete}
 
 module _ {C : Type 0} where
   -- ## transduce
@@ -50,11 +50,11 @@ module _ {C : Type 0} where
       round_at s
       (ends_with (pulled true (list states) (list outputs) nil))
       (visits (enter (list stages) (list states) (gathers (list outputs)) (first_of s) (λ new sink done.
-          cond done
-          (give (pulled true new (outputs_of sink) nil))
-          (cond (int_le size (pos (length (outputs_of sink))))
-          (give (pulled false new (outputs_of sink) (rest_of s)))
-          (seq (rest_of s) (λ t. go pull_from (int size ∷ vector stages ∷ vector (values new) ∷ vector (values (outputs_of sink)) ∷ t ∷ []) give))))))
+      cond done
+      (give (pulled true new (outputs_of sink) nil))
+      (cond (int_le size (pos (length (outputs_of sink))))
+      (give (pulled false new (outputs_of sink) (rest_of s)))
+      (seq (rest_of s) (λ t. go pull_from (int size ∷ vector stages ∷ vector (values new) ∷ vector (values (outputs_of sink)) ∷ t ∷ []) give))))))
   pull_round _ = fails BadType
 
   -- the outputs as the last chunk, or nil

@@ -1,5 +1,5 @@
 -- Worked rows of the stages. Each is a computation over the rules.
-use Rattle.std.specs.Prelude.{◌≡◌, ℕ, pos, negsuc, Bool, true, false, List, [], ◌∷◌}
+use Rattle.std.specs.Prelude.{◌≡◌, ℕ, pos, true, false, List, [], ◌∷◌}
 use Rattle.seq_base.specs.declared.thrown.Thrown.TheVariants.{Arity, BadType}
 use Rattle.seq_values.specs.declared.words.Builtin.TheVariants as B
 use Rattle.seq_values.specs.declared.words.Kind.TheVariants.{Lazy}
@@ -44,13 +44,13 @@ Compositions =
 abbrev pub Passed : Type 0
 Passed =
     ((f p g a x : Value ℕ) (k : Onward ℕ) → enter (stage X.Map f ∷ stage X.Filter p ∷ []) (nil ∷ nil ∷ []) (reduces g a) x k
-        ≡ call f (x ∷ []) (λ y. call p (y ∷ []) (λ z. if_true z
-            (call g (a ∷ y ∷ []) (λ w. k (nil ∷ nil ∷ []) (reduces g (unwrapped w)) (is_reduced w)))
-            (k (nil ∷ nil ∷ []) (reduces g a) false))))
+    ≡ call f (x ∷ []) (λ y. call p (y ∷ []) (λ z. if_true z
+    (call g (a ∷ y ∷ []) (λ w. k (nil ∷ nil ∷ []) (reduces g (unwrapped w)) (is_reduced w)))
+    (k (nil ∷ nil ∷ []) (reduces g a) false))))
     × ((p x : Value ℕ) (k : Onward ℕ) → enter (stage X.Remove p ∷ []) (nil ∷ []) (gathers []) x k
-        ≡ call p (x ∷ []) (λ z. if_true z (k (nil ∷ []) (gathers []) false) (k (nil ∷ []) (gathers (x ∷ [])) false)))
+    ≡ call p (x ∷ []) (λ z. if_true z (k (nil ∷ []) (gathers []) false) (k (nil ∷ []) (gathers (x ∷ [])) false)))
     × ((f x : Value ℕ) (k : Onward ℕ) → enter (stage X.Keep f ∷ []) (nil ∷ []) (gathers []) x k
-        ≡ call f (x ∷ []) (λ z. if_nil z (k (nil ∷ []) (gathers []) false) (k (nil ∷ []) (gathers (z ∷ [])) false)))
+    ≡ call f (x ∷ []) (λ z. if_nil z (k (nil ∷ []) (gathers []) false) (k (nil ∷ []) (gathers (z ∷ [])) false)))
 
 -- All is done with the last element that is taken, and at once where none is; `take-while` is done at the first that isn't.
 abbrev pub Taken : Type 0
@@ -59,7 +59,7 @@ Taken =
     × ((x : Value ℕ) (k : Onward ℕ) → enter (stage X.Take (number 2) ∷ []) (number 2 ∷ []) (gathers []) x k ≡ k (number 1 ∷ []) (gathers (x ∷ [])) false)
     × ((x : Value ℕ) (k : Onward ℕ) → enter (stage X.Take (number 2) ∷ []) (number 1 ∷ []) (gathers []) x k ≡ k (number 0 ∷ []) (gathers (x ∷ [])) true)
     × ((p x : Value ℕ) (k : Onward ℕ) → enter (stage X.TakeWhile p ∷ []) (nil ∷ []) (gathers []) x k
-        ≡ call p (x ∷ []) (λ z. if_true z (k (nil ∷ []) (gathers (x ∷ [])) false) (k (nil ∷ []) (gathers []) true)))
+    ≡ call p (x ∷ []) (λ z. if_true z (k (nil ∷ []) (gathers (x ∷ [])) false) (k (nil ∷ []) (gathers []) true)))
 
 -- `drop` counts down, and `drop-while` calls its function up to the first element that passes
 abbrev pub Dropped : Type 0
@@ -67,16 +67,16 @@ Dropped =
     ((x : Value ℕ) (k : Onward ℕ) → enter (stage X.Drop (number 1) ∷ []) (number 1 ∷ []) (gathers []) x k ≡ k (number 0 ∷ []) (gathers []) false)
     × ((x : Value ℕ) (k : Onward ℕ) → enter (stage X.Drop (number 1) ∷ []) (number 0 ∷ []) (gathers []) x k ≡ k (number 0 ∷ []) (gathers (x ∷ [])) false)
     × ((p x : Value ℕ) (k : Onward ℕ) → enter (stage X.DropWhile p ∷ []) (bool true ∷ []) (gathers []) x k
-        ≡ call p (x ∷ []) (λ z. if_true z (k (bool true ∷ []) (gathers []) false) (k (bool false ∷ []) (gathers (x ∷ [])) false)))
+    ≡ call p (x ∷ []) (λ z. if_true z (k (bool true ∷ []) (gathers []) false) (k (bool false ∷ []) (gathers (x ∷ [])) false)))
     × ((p x : Value ℕ) (k : Onward ℕ) → enter (stage X.DropWhile p ∷ []) (bool false ∷ []) (gathers []) x k ≡ k (bool false ∷ []) (gathers (x ∷ [])) false)
 
 -- `mapcat` walks the answer of its function, `cat` the input, and each element enters the stages after it
 abbrev pub Joined : Type 0
 Joined =
     ((f g x : Value ℕ) (k : Onward ℕ) → enter (stage X.Mapcat f ∷ stage X.Map g ∷ []) (nil ∷ nil ∷ []) (gathers []) x k
-        ≡ call f (x ∷ []) (λ y. enter_each (stage X.Map g ∷ []) (nil ∷ []) (gathers []) y (λ states sink done. k (nil ∷ states) sink done)))
+    ≡ call f (x ∷ []) (λ y. enter_each (stage X.Map g ∷ []) (nil ∷ []) (gathers []) y (λ states sink done. k (nil ∷ states) sink done)))
     × ((x : Value ℕ) (k : Onward ℕ) → enter (function (T.Xf X.Cat) no_values ∷ []) (nil ∷ []) (gathers []) x k
-        ≡ enter_each [] [] (gathers []) x (λ states sink done. k (nil ∷ states) sink done))
+    ≡ enter_each [] [] (gathers []) x (λ states sink done. k (nil ∷ states) sink done))
 
 -- A group is passed on where it is full; what is left of one is passed on by the completion, and then by the stages after it.
 abbrev pub Grouped : Type 0
