@@ -6,3 +6,6 @@ pub mod CursorLemmas
 pub mod Silences
 pub mod Thens
 pub mod Depths
+pub mod AlikeStages
+pub mod StageLoops
+pub mod StageThens

@@ -1,6 +1,6 @@
 -- What holds of plans and of nodes, as statements. A renaming is given by a test that tells which cells are the same.
-use Rattle.std.specs.Prelude.{◌≡◌, ℕ, Bool}
-use Rattle.seq_values.specs.Model.{Value}
+use Rattle.std.specs.Prelude.{◌≡◌, ℕ, Bool, List, ◌∷◌}
+use Rattle.seq_values.specs.Model.{Value, vector, values}
 use Rattle.seq_values.specs.Depth.{depth as depth_in_code}
 use Rattle.seq_values.specs.Plain.{plain}
 use Rattle.seq_values.specs.declared.value.Value.{Value as Held}
@@ -8,6 +8,7 @@ use Rattle.seq_plan.specs.Plan.{Plan, then, give}
 use Rattle.seq_plan.specs.Nodes.{depth, first_of, rests_of}
 use Rattle.seq_plan.specs.declared.cursor.Cursor.{Cursor}
 use Rattle.seq_plan.specs.Cursors.{stands, IsFound}
+use Rattle.seq_plan.specs.Stages.{Sink, Onward, sink_values, standing, entered, enter, each_round, enter_round, complete}
 use Rattle.seq_plan.specs.Alike.{Tells, Like, LikePlan}
 
 -- what goes on after two plans may be joined in either order, and a value that is given goes straight on
@@ -39,3 +40,18 @@ CursorIsFound = (c : Cursor) → IsFound (stands c)
 -- a value of the code is as deep as the value that it stands for
 abbrev pub DepthIsPlain : Type 0
 DepthIsPlain = (v : Held) → depth (plain v) ≡ depth_in_code v
+
+-- what the loop of stages gives is handed on as it is
+abbrev pub StandingEnters : Type 0
+StandingEnters = (k : Onward ℕ) (states : List (Value ℕ)) (sink : Sink ℕ) (done : Bool) → entered k (standing states sink done) ≡ k states sink done
+
+-- and a round of it has the variables with which it began
+abbrev pub RoundIsOfEach : Type 0
+RoundIsOfEach = (stages states : List (Value ℕ)) (s : Value ℕ) (sink : Sink ℕ) → enter_round (vector (values stages) ∷ vector (values states) ∷ s ∷ sink_values sink) ≡ each_round stages states sink s
+
+-- what goes on after an input has entered stages, or after their completion, goes on after each of its ends
+abbrev pub ThenEnters : Type 0
+ThenEnters = (stages states : List (Value ℕ)) (sink : Sink ℕ) (x : Value ℕ) (k : Onward ℕ) (h : Value ℕ → Plan ℕ) → then (enter stages states sink x k) h ≡ enter stages states sink x (λ new after done. then (k new after done) h)
+
+abbrev pub ThenCompletes : Type 0
+ThenCompletes = (stages states : List (Value ℕ)) (sink : Sink ℕ) (k : Sink ℕ → Plan ℕ) (h : Value ℕ → Plan ℕ) → then (complete stages states sink k) h ≡ complete stages states sink (λ after. then (k after) h)

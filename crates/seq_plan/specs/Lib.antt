@@ -3,6 +3,7 @@ pub mod Nodes
 pub mod Lists
 pub mod Arguments
 pub mod Alike
+pub mod Stages
 pub mod Turns
 pub mod Silent
 pub mod Cursors

@@ -4,7 +4,7 @@
 mod cursor;
 mod left;
 
-ghost use Rattle.seq_plan.specs.Laws.{ThenJoins, ThenGives, LikeIsAsDeep, LikeFirsts, LikeRests, LikeThen, CursorIsFound, DepthIsPlain};
+ghost use Rattle.seq_plan.specs.Laws.{ThenJoins, ThenGives, LikeIsAsDeep, LikeFirsts, LikeRests, LikeThen, CursorIsFound, DepthIsPlain, StandingEnters, RoundIsOfEach, ThenEnters, ThenCompletes};
 
 pub use cursor::{Cursor, Walked, cursor_at};
 pub use left::{HeadsLeft, ItemsLeft, RangeLeft, VecLeft};
@@ -47,4 +47,24 @@ pub fn law_cursor_is_found()
 /// A value of the code is as deep as the value that it stands for.
 pub fn law_depth_is_plain()
     ensures { DepthIsPlain }
+{}
+
+/// What the loop of stages gives is handed on as it is.
+pub fn law_standing_enters()
+    ensures { StandingEnters }
+{}
+
+/// A round of the loop of stages has the variables with which the loop began.
+pub fn law_round_is_of_each()
+    ensures { RoundIsOfEach }
+{}
+
+/// What goes on after an input has entered stages goes on after each of its ends.
+pub fn law_then_enters()
+    ensures { ThenEnters }
+{}
+
+/// What goes on after the completion of stages goes on after each of its ends.
+pub fn law_then_completes()
+    ensures { ThenCompletes }
 {}

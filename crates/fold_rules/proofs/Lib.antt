@@ -1,0 +1,2 @@
+pub mod AlikeTable
+pub mod Halves

@@ -1,0 +1,3 @@
+pub mod AlikeTable
+pub mod KeptStates
+pub mod Limited
