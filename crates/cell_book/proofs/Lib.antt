@@ -1,0 +1,5 @@
+pub mod Lists
+pub mod Opening
+pub mod Values
+pub mod Keeping
+pub mod Calls

@@ -1,0 +1,4 @@
+pub mod Account
+pub mod Steps
+pub mod Kept
+pub mod Works
