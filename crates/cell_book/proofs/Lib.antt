@@ -3,3 +3,4 @@ pub mod Opening
 pub mod Values
 pub mod Keeping
 pub mod Calls
+pub mod Stepping

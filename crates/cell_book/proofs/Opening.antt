@@ -13,11 +13,9 @@ use Rattle.cell_book.specs.declared.cell.Cell.{Cell}
 use Rattle.cell_book.specs.declared.cell.Form.{Form}
 use Rattle.cell_book.specs.Account.{Account, Duty, numbered, cell_at, opened, closed, is_open, forces, runs, opens, made_by, made_from, IsUnnamed, IsFresh, IsSound}
 use Rattle.cell_book.specs.Steps.{renumbered, with_cell, with_form, begun_form, new_cell, claimed, after_claim, HasOpen}
+use Rattle.cell_book.specs.Glimpses.{at_claim}
 use Rattle.cell_book.proofs.Lists.{count_push, count_set, counts_one, counts_two, counts_none, is_one, is_none, length_set, length_push}
 
--- 1 at the claim itself
-abbrev pub at_claim : ℕ → ℕ → ℕ
-at_claim claim c = cond (claim == c) 1 0
 
 pub at_claim_same : (d c : ℕ) → d ≡ c → at_claim d c ≡ 1
 at_claim_same d c e = is_one (d == c) (eq-eqb d c e)

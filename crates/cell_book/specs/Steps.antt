@@ -1,5 +1,5 @@
 -- One step on a book: what each call does to the whole book, and what it answers.
-use Rattle.std.specs.Prelude.{◌≡◌, ◌≢◌, ℕ, zero, suc, ◌+◌, ◌<◌, ◌≤◌, ◌++◌, Bool, true, false, cond, List, [], ◌∷◌, length, slice_get, slice_set, Option, Some, None, Result, MatchResult, IfOk, unwrap_or}
+use Rattle.std.specs.Prelude.{◌≡◌, ◌≢◌, ℕ, zero, suc, ◌+◌, ◌<◌, ◌≤◌, ◌++◌, Bool, true, false, cond, List, [], ◌∷◌, length, slice_get, slice_set, Option, Some, None, Result, MatchResult, IfOk, unwrap_or, option_map}
 use Rattle.seq_base.specs.declared.thrown.Thrown.{Thrown}
 use Rattle.seq_vector.specs.declared.share.NoMemory.{NoMemory}
 use Rattle.seq_values.specs.declared.value.Value.{Value}
@@ -134,6 +134,15 @@ pub record HasOpen (p : Cell) (claim : ℕ) (asker : Option ℕ) (past : List At
 abbrev pub after_claim : Cell → ℕ → Option ℕ → List Attempt → ClaimEnd → State → Cell
 after_claim p claim asker past end state = record p { state = state; attempts = past ++ closed claim asker end ∷ [] }
 
+abbrev pub KindAnswer : Type 0
+KindAnswer = Option Kind
+
+abbrev pub kind_at : Cell → Kind
+kind_at p = p.kind
+
+abbrev pub Kinds : Account → ℕ → KindAnswer → Account → Type 0
+Kinds a id answer b = (b ≡ a) × (answer ≡ option_map kind_at (cell_at a id))
+
 -- The claim on the cell ends, and leaves the cell in a state.
 abbrev pub EndsPart : Account → ℕ → ℕ → ClaimEnd → (Kind → State) → Account → Type 0
 EndsPart a id claim end state b = (p : Cell) × (asker : Option ℕ) × (past : List Attempt) × (cell_at a id ≡ Some p) × HasOpen p claim asker past × (b ≡ with_cell a id (after_claim p claim asker past end (state p.kind)))
@@ -165,13 +174,16 @@ Fails a w why b = Ends a w (E.Error why) (failed_state why) None b
 abbrev pub GivesUp : Account → Duty → Account → Type 0
 GivesUp a w b = (m : Account) × Ends a w E.GivenUp (λ _. S.Empty) None m × (b ≡ record m { gave_up = true })
 
--- The claim of the work is open: it forces the part, or the form has not ended.
-abbrev pub IsOpenIn : Account → Duty → Type 0
-IsOpenIn a w = At w.place
+-- The claim of the work is open, as far as these cells (by their numbers) and forms (by their places) tell: it forces the part, or the form has not ended.
+abbrev pub IsOpenAt : (ℕ → Option Cell) → (ℕ → Option Form) → Duty → Type 0
+IsOpenAt cells forms w = At w.place
   where
     At : Place → Type 0
-    At (P.Form number k) = slice_get a.forms k ≡ Some (begun_form number w.claim)
-    At (P.Part id kind term) = (p : Cell) × (asker : Option ℕ) × (past : List Attempt) × (cell_at a id ≡ Some p) × HasOpen p w.claim asker past
+    At (P.Form number k) = forms k ≡ Some (begun_form number w.claim)
+    At (P.Part id kind term) = (p : Cell) × (asker : Option ℕ) × (past : List Attempt) × (cells id ≡ Some p) × HasOpen p w.claim asker past
+
+abbrev pub IsOpenIn : Account → Duty → Type 0
+IsOpenIn a w = IsOpenAt (λ id. cell_at a id) (λ k. slice_get a.forms k) w
 
 abbrev pub IsOpenAsker : Account → Option Duty → Type 0
 IsOpenAsker a None = Unit {0}

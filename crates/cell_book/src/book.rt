@@ -3,7 +3,7 @@ ghost use Rattle.seq_values.specs.declared.value.Value.TheVariants.{Nil};
 ghost use Rattle.cell_book.specs.declared.cell.Cell.{Cell as Part};
 ghost use Rattle.cell_book.specs.declared.cell.Attempt.{Attempt as Record};
 ghost use Rattle.cell_book.specs.Account.{Account, cell_at, is_open, forces, made_by, IsFresh};
-ghost use Rattle.cell_book.specs.Steps.{values_in, shown, term_at, asker_of, begun_form, with_cell, after_claim, is_barred, cell_counts, form_counts, claimed, failed_state, fresh_cell, HasCount, Begins, Makes, Opens, Claims, EndsForm, Finishes, Fails, GivesUp, HasOpen, IsOpenIn, IsOpenAsker};
+ghost use Rattle.cell_book.specs.Steps.{values_in, shown, term_at, kind_at, asker_of, begun_form, with_cell, after_claim, is_barred, cell_counts, form_counts, claimed, failed_state, fresh_cell, HasCount, Begins, Makes, Opens, Claims, EndsForm, Finishes, Fails, GivesUp, HasOpen, IsOpenIn, IsOpenAsker};
 ghost use Rattle.cell_book.specs.declared.cell.ClaimEnd.TheVariants as End;
 ghost use Rattle.cell_book.specs.declared.answers.Look.TheVariants as Look;
 ghost use Rattle.cell_book.specs.declared.answers.MakeRefusal.TheVariants as Refusal;
@@ -232,6 +232,16 @@ impl Book {
         match self.cells.get(place_of(id)) {
             None => None,
             Some(cell) => Some(&cell.term),
+        }
+    }
+
+    /// The kind of a part, and `None` exactly for a number not made.
+    pub fn kind(&self, id: CellId) -> Option<Kind>
+        ensures { result ≡ option_map kind_at (cell_at self.now id) }
+    {
+        match self.cells.get(place_of(id)) {
+            None => None,
+            Some(cell) => Some(cell.kind),
         }
     }
 

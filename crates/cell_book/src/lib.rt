@@ -5,10 +5,14 @@ mod answers;
 mod attempts;
 mod book;
 mod cell;
+mod cells;
+mod plain;
 mod work;
 
 pub use answers::{ClaimRefusal, Look, MakeRefusal, Totals};
 pub use attempts::Attempts;
 pub use book::Book;
 pub use cell::{Attempt, Cell, ClaimEnd, Form, State};
+pub use cells::{CellLaw, Cells};
+pub use plain::PlainCells;
 pub use work::{Place, Work};
