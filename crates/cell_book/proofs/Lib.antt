@@ -4,3 +4,5 @@ pub mod Values
 pub mod Keeping
 pub mod Calls
 pub mod Stepping
+pub mod Onwards
+pub mod Moves
