@@ -1,5 +1,5 @@
 -- The calls of a book in terms of what they read and write.
-use Rattle.std.proofs.Common.{◌≡◌, ◌≢◌, ℕ, zero, suc, ◌+◌, ◌-◌, ◌<◌, ◌≤◌, Bool, true, false, List, [], ◌∷◌, ◌++◌, length, get_or, Some, None, Option, refl, ap, sym, subst, ◌∙◌, arith, ◌⊎◌, inl, inr}
+use Rattle.std.proofs.Common.{◌≡◌, ◌≢◌, ℕ, zero, suc, ◌+◌, ◌<◌, ◌≤◌, Bool, false, List, [], ◌∷◌, ◌++◌, length, get_or, Some, None, Option, refl, ap, sym, subst, ◌∙◌, arith, ◌⊎◌}
 use Rattle.std.specs.Prelude.{slice_get, slice_set}
 use Rattle.std.proofs.lemmas.Option.{none-some, same_Some, slice_get_within, slice_get_read}
 use Rattle.seq_values.specs.declared.value.Value.{Value}
@@ -14,7 +14,7 @@ use Rattle.cell_book.specs.declared.cell.Cell.{Cell}
 use Rattle.cell_book.specs.declared.cell.Form.{Form}
 use Rattle.cell_book.specs.declared.work.Place.{Place}
 use Rattle.cell_book.specs.declared.work.Place.TheVariants as P
-use Rattle.cell_book.specs.Account.{Account, Duty, numbered, cell_at, opened, closed, is_open, forces, made_by, IsFresh, IsSound}
+use Rattle.cell_book.specs.Account.{Account, Duty, cell_at, closed, is_open, forces, made_by, IsFresh}
 use Rattle.cell_book.specs.Steps.{renumbered, with_cell, with_form, begun_form, new_cell, claimed, after_claim, shown, cell_counts, form_counts, HasCount, HasOpen, IsOpenIn, IsOpenAsker, asker_of, EndsForm}
 use Rattle.cell_book.specs.Kept.{CountsMakes, IsKept}
 use Rattle.cell_book.proofs.Lists.{length_push}

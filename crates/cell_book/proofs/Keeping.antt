@@ -1,5 +1,5 @@
 -- What a book keeps beside what is seen of it, over each step.
-use Rattle.std.proofs.Common.{◌≡◌, ◌≢◌, ℕ, zero, suc, ◌+◌, ◌-◌, ◌<◌, ◌≤◌, ◌==◌, Bool, true, false, cond, List, [], ◌∷◌, ◌++◌, length, take, Some, None, Option, refl, ap, sym, subst, ◌∙◌, arith, ◌⊎◌, inl, inr, eq-eqb, ne_eqb, le_refl}
+use Rattle.std.proofs.Common.{◌≡◌, ◌≢◌, ℕ, zero, suc, ◌+◌, ◌<◌, ◌≤◌, ◌==◌, Bool, true, false, cond, List, [], ◌∷◌, ◌++◌, length, take, Some, None, Option, refl, ap, sym, subst, ◌∙◌, arith, ◌⊎◌, inl, inr, eq-eqb, ne_eqb, le_refl}
 use Rattle.std.specs.Prelude.{slice_get, slice_set}
 use Rattle.std.proofs.lemmas.Option.{none-some, same_Some, slice_get_within}
 use Rattle.std.proofs.Math.Seq.{take-length}
@@ -14,12 +14,12 @@ use Rattle.cell_book.specs.declared.cell.Cell.{Cell}
 use Rattle.cell_book.specs.declared.cell.Form.{Form}
 use Rattle.cell_book.specs.declared.work.Place.{Place}
 use Rattle.cell_book.specs.declared.work.Place.TheVariants as P
-use Rattle.cell_book.specs.Account.{Account, Duty, numbered, cell_at, opened, closed, is_open, forces, made_by, made_from, IsUnnamed, IsFresh, IsSound}
-use Rattle.cell_book.specs.Steps.{renumbered, with_cell, with_form, begun_form, new_cell, claimed, after_claim, values_in, cell_counts, form_counts, HasOpen, IsOpenIn}
+use Rattle.cell_book.specs.Account.{Account, Duty, opened, closed, is_open, forces, made_by, made_from, IsUnnamed, IsFresh, IsSound}
+use Rattle.cell_book.specs.Steps.{with_cell, with_form, begun_form, new_cell, claimed, after_claim, values_in, cell_counts, form_counts, HasOpen, IsOpenIn}
 use Rattle.cell_book.specs.Kept.{CountsMakes, IsKept}
-use Rattle.cell_book.proofs.Lists.{get_snoc, get_set, get_last, get_longer, get_within, set_here, set_other, length_push, length_set, same_or}
+use Rattle.cell_book.proofs.Lists.{get_snoc, get_set, get_last, get_longer, length_push, length_set}
 use Rattle.cell_book.proofs.Values.{values_long, take_push, take_set}
-use Rattle.cell_book.proofs.Opening.{numbered_some, fresh_made, begun_sound, made_sound, claimed_sound, ended_sound, form_sound, one_cell, one_form, cell_or_form, renumbered_long}
+use Rattle.cell_book.proofs.Opening.{numbered_some, fresh_made, begun_sound, made_sound, claimed_sound, ended_sound, form_sound, one_cell, one_form, cell_or_form}
 
 -- the claim of an open work is named in the book
 pub open_named : (a : Account) (w : Duty) (c : ℕ) → IsOpenIn a w → IsFresh a c → w.claim ≢ c

@@ -6,3 +6,4 @@ pub mod Calls
 pub mod Stepping
 pub mod Onwards
 pub mod Moves
+pub mod Laws

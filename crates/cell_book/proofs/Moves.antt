@@ -1,12 +1,12 @@
 -- What each step leaves of what one knows: of the claims of others, and of one's own.
-use Rattle.std.proofs.Common.{◌≡◌, ◌≢◌, ℕ, zero, suc, ◌+◌, ◌<◌, ◌≤◌, ◌==◌, Bool, true, false, cond, List, [], ◌∷◌, ◌++◌, length, Some, None, Option, Ok, Err, refl, ap, sym, subst, ◌∙◌, arith, ◌⊎◌, inl, inr, eq-eqb, ne_eqb}
-use Rattle.std.specs.Prelude.{slice_get, slice_set, IfOk}
+use Rattle.std.proofs.Common.{◌≡◌, ◌≢◌, ℕ, zero, suc, Bool, true, false, cond, List, [], ◌∷◌, ◌++◌, length, Some, None, Option, Ok, Err, refl, ap, sym, subst, ◌∙◌, arith, ◌⊎◌, inl, inr, eq-eqb, ne_eqb}
+use Rattle.std.specs.Prelude.{slice_get, slice_set}
 use Rattle.std.proofs.lemmas.Option.{none-some, same_Some}
 use Rattle.seq_base.specs.declared.thrown.Thrown.{Thrown}
 use Rattle.seq_values.specs.declared.value.Value.{Value}
 use Rattle.seq_values.specs.declared.term.Term.{Term}
 use Rattle.seq_values.specs.declared.words.Kind.{Kind}
-use Rattle.seq_values.specs.declared.words.Kind.TheVariants.{Lazy, Future}
+use Rattle.cell_book.specs.declared.answers.Look.TheVariants as L
 use Rattle.cell_book.specs.declared.answers.MakeRefusal.TheVariants as M
 use Rattle.cell_book.specs.declared.cell.State.{State}
 use Rattle.cell_book.specs.declared.cell.State.TheVariants as S
@@ -17,9 +17,9 @@ use Rattle.cell_book.specs.declared.cell.Cell.{Cell}
 use Rattle.cell_book.specs.declared.cell.Form.{Form}
 use Rattle.cell_book.specs.declared.work.Place.{Place}
 use Rattle.cell_book.specs.declared.work.Place.TheVariants as P
-use Rattle.cell_book.specs.Account.{Account, Duty, cell_at, opened, closed, is_open, is_asker, made_by, asked_by, asked_at}
-use Rattle.cell_book.specs.Steps.{with_cell, with_form, begun_form, new_cell, claimed, after_claim, BeginAnswer, MakeAnswer, LookAnswer, KindAnswer, ClaimAnswer, HasOpen, Begins, Makes, Looks, Kinds, Claims, Ends, Finishes, Fails, GivesUp, failed_state}
-use Rattle.cell_book.specs.Glimpses.{Glimpse, glimpse, Continues, Stays, FormStays, Reaches, IsForced, Holds, Onward, Answered, MadeOne}
+use Rattle.cell_book.specs.Account.{Account, Duty, cell_at, opened, closed, is_open, is_asker, asked_by, asked_at}
+use Rattle.cell_book.specs.Steps.{with_cell, with_form, begun_form, new_cell, claimed, after_claim, BeginAnswer, MakeAnswer, LookAnswer, KindAnswer, ClaimAnswer, HasOpen, Begins, Makes, Looks, Kinds, Claims, Ends, Finishes, Fails, GivesUp, failed_state, shown, shown_state}
+use Rattle.cell_book.specs.Glimpses.{glimpse, Continues, Stays, FormStays, Reaches, IsForced, Holds, Onward, Answered, MadeOne}
 use Rattle.cell_book.proofs.Lists.{get_longer, get_last, get_snoc, set_here, set_other, same_or}
 use Rattle.cell_book.proofs.Keeping.{made_else, made_own, written_made, append_none}
 use Rattle.cell_book.proofs.Onwards.{continues_same, stays_same, form_stays_same, reaches_same, holds_same, onward_same}
@@ -209,7 +209,7 @@ after_stays p claim asker past end state h = record {
 after_asked : (c : ℕ) (p : Cell) (claim : ℕ) (asker : Option ℕ) (past : List Attempt) (end : ClaimEnd) (state : State) → HasOpen p claim asker past → is_open end ≡ false → asked_by c (after_claim p claim asker past end state).attempts ≡ asked_by c p.attempts ++ cond (is_asker c asker) (closed claim asker end ∷ []) []
 after_asked c p claim asker past end state h n =
     asked_more c past (closed claim asker end) ∙
-      (ap (λ (b : Bool). asked_by c past ++ cond (cond b false (is_asker c asker)) (closed claim asker end ∷ []) []) n ∙ ap (λ l. l ++ cond (is_asker c asker) (closed claim asker end ∷ []) []) (sym (ap (asked_by c) h.attempts ∙ (asked_more c past (opened claim asker) ∙ append_none (asked_by c past)))))
+    (ap (λ (b : Bool). asked_by c past ++ cond (cond b false (is_asker c asker)) (closed claim asker end ∷ []) []) n ∙ ap (λ l. l ++ cond (is_asker c asker) (closed claim asker end ∷ []) []) (sym (ap (asked_by c) h.attempts ∙ (asked_more c past (opened claim asker) ∙ append_none (asked_by c past)))))
 
 form_stays : (number claim : ℕ) (end : ClaimEnd) (value : Option Value) → FormStays (begun_form number claim) (record { number = number; attempt = closed claim None end; value = value })
 form_stays number claim end value = record { number = refl; attempt = record { claim = refl; asker = refl; ended = λ e. absurd (still e) }; value = λ e. absurd (still e) }
@@ -286,3 +286,38 @@ module _ (a b : Account) (w : Duty) (end : ClaimEnd) (state : Kind → State) (v
             here = ap (asked_at c) (written_here a i c p q e) ∙ (z ∙ ap (λ (l : List Attempt). l ++ closed w.claim (Some c) end ∷ []) (ap (asked_at c) (sym e)));
             elsewhere = λ j k. ap (asked_at c) (written_other a i c p q e j k);
           })
+
+-- the three ways in which a claim ends
+failed_open : (why : Thrown) → is_open (E.Error why) ≡ false
+failed_open why = refl
+
+pub finishes_onward : (a b : Account) (w : Duty) (v : Value) (c : ℕ) → Finishes a w v b → c ≢ w.claim → ((id : ℕ) → ¬ IsForced (glimpse a) id w.claim (Some c)) → Onward c (glimpse a) (glimpse b)
+finishes_onward a b w v c h d never = ends_onward a b w E.Value (λ _. S.Done v) (Some v) c refl h d never
+
+pub finishes_answered : (a b : Account) (w : Duty) (v : Value) (c id : ℕ) (kind : Kind) (term : Term) → w.place ≡ P.Part id kind term → Finishes a w v b → c ≢ w.claim → IsForced (glimpse a) id w.claim (Some c) → Answered c id (closed w.claim (Some c) E.Value) (glimpse a) (glimpse b)
+finishes_answered a b w v c id kind term place h d f = ends_answered a b w E.Value (λ _. S.Done v) (Some v) c refl id kind term place h d f
+
+pub fails_onward : (a b : Account) (w : Duty) (why : Thrown) (c : ℕ) → Fails a w why b → c ≢ w.claim → ((id : ℕ) → ¬ IsForced (glimpse a) id w.claim (Some c)) → Onward c (glimpse a) (glimpse b)
+fails_onward a b w why c h d never = ends_onward a b w (E.Error why) (failed_state why) None c refl h d never
+
+pub fails_answered : (a b : Account) (w : Duty) (why : Thrown) (c id : ℕ) (kind : Kind) (term : Term) → w.place ≡ P.Part id kind term → Fails a w why b → c ≢ w.claim → IsForced (glimpse a) id w.claim (Some c) → Answered c id (closed w.claim (Some c) (E.Error why)) (glimpse a) (glimpse b)
+fails_answered a b w why c id kind term place h d f = ends_answered a b w (E.Error why) (failed_state why) None c refl id kind term place h d f
+
+pub gives_up_onward : (a b : Account) (w : Duty) (c : ℕ) → GivesUp a w b → c ≢ w.claim → ((id : ℕ) → ¬ IsForced (glimpse a) id w.claim (Some c)) → Onward c (glimpse a) (glimpse b)
+gives_up_onward a b w c (m, h, e) d never =
+    subst (λ (z : Account). Onward c (glimpse a) (glimpse z)) (sym e) (Rattle.cell_book.proofs.Onwards.onward_then c (glimpse a) (glimpse m) (glimpse (record m { gave_up = true })) (ends_onward a m w E.GivenUp (λ _. S.Empty) None c refl h d never) (noted_onward m m.spent true (λ x. x) (λ x. refl) c))
+
+-- what a part shows after its claim ended
+pub ends_shown : (a b : Account) (w : Duty) (end : ClaimEnd) (state : Kind → State) (value : Option Value) (id : ℕ) (kind : Kind) (term : Term) → w.place ≡ P.Part id kind term → Ends a w end state value b → (p : Cell) × (cell_at b id ≡ Some p) × ((k : Kind) × (p.state ≡ state k))
+ends_shown a b w end state value id kind term place h = at id (subst (λ (x : Place). Ends a (record { place = x; claim = w.claim; outcomes = w.outcomes }) end state value b) place h)
+  where
+    at : (j : ℕ) → Ends a (record { place = P.Part j kind term; claim = w.claim; outcomes = w.outcomes }) end state value b → (p : Cell) × (cell_at b j ≡ Some p) × ((k : Kind) × (p.state ≡ state k))
+    at zero (p, asker, past, e, o, is) = absurd (none-some p e)
+    at (suc i) (p, asker, past, e, o, is) =
+        let q = after_claim p w.claim asker past end (state p.kind) in
+        (q, ap (λ (z : Account). cell_at z (suc i)) is ∙ set_here a.cells i p q e, (p.kind, refl))
+
+pub finishes_shown : (a b : Account) (w : Duty) (v : Value) (id : ℕ) (kind : Kind) (term : Term) → w.place ≡ P.Part id kind term → Finishes a w v b → shown (cell_at b id) ≡ L.Done v
+finishes_shown a b w v id kind term place h =
+    let s = ends_shown a b w E.Value (λ _. S.Done v) (Some v) id kind term place h in
+    ap shown s.1 ∙ ap shown_state s.2.1

@@ -1,26 +1,14 @@
 -- How what one knows goes on over each step: one's own and those of others.
-use Rattle.std.proofs.Common.{◌≡◌, ◌≢◌, ℕ, zero, suc, ◌+◌, ◌<◌, ◌≤◌, ◌==◌, Bool, true, false, cond, List, [], ◌∷◌, ◌++◌, length, Some, None, Option, Ok, Err, refl, ap, sym, subst, ◌∙◌, arith, ◌⊎◌, inl, inr, eq-eqb, ne_eqb}
-use Rattle.std.specs.Prelude.{slice_get, slice_set, IfOk}
-use Rattle.std.proofs.lemmas.Option.{none-some, same_Some}
-use Rattle.seq_base.specs.declared.thrown.Thrown.{Thrown}
-use Rattle.seq_values.specs.declared.value.Value.{Value}
-use Rattle.seq_values.specs.declared.term.Term.{Term}
-use Rattle.seq_values.specs.declared.words.Kind.{Kind}
-use Rattle.cell_book.specs.declared.answers.MakeRefusal.TheVariants as M
-use Rattle.cell_book.specs.declared.cell.State.{State}
-use Rattle.cell_book.specs.declared.cell.State.TheVariants as S
-use Rattle.cell_book.specs.declared.cell.ClaimEnd.{ClaimEnd}
-use Rattle.cell_book.specs.declared.cell.ClaimEnd.TheVariants as E
+use Rattle.std.proofs.Common.{◌≡◌, ℕ, ◌<◌, Bool, true, false, [], ◌∷◌, ◌++◌, Some, Option, refl, ap, sym, ◌∙◌, ◌⊎◌, inl, inr}
+use Rattle.std.specs.Prelude.{slice_get}
 use Rattle.cell_book.specs.declared.cell.Attempt.{Attempt}
 use Rattle.cell_book.specs.declared.cell.Cell.{Cell}
 use Rattle.cell_book.specs.declared.cell.Form.{Form}
 use Rattle.cell_book.specs.declared.work.Place.{Place}
 use Rattle.cell_book.specs.declared.work.Place.TheVariants as P
-use Rattle.cell_book.specs.Account.{Account, Duty, cell_at, opened, closed, is_open, is_asker, made_by, asked_by, asked_at, begun}
-use Rattle.cell_book.specs.Steps.{with_cell, with_form, begun_form, new_cell, claimed, after_claim, BeginAnswer, MakeAnswer, LookAnswer, KindAnswer, ClaimAnswer, HasOpen, Begins, Makes, Looks, Kinds, Claims, Ends, Finishes, Fails, GivesUp, failed_state, IsOpenIn}
-use Rattle.cell_book.specs.Glimpses.{Glimpse, glimpse, Continues, Stays, FormStays, Reaches, IsForced, IsOpen, Holds, Onward, Answered, MadeOne, Foresees, IsAll, Fits, Sees, at_claim}
-use Rattle.cell_book.proofs.Lists.{get_longer, get_last, get_snoc, set_here, set_other, same_or, length_push}
-use Rattle.cell_book.proofs.Keeping.{made_else, made_own, written_made, append_none}
+use Rattle.cell_book.specs.Account.{Account, Duty, cell_at, is_open}
+use Rattle.cell_book.specs.Steps.{begun_form, IsOpenIn}
+use Rattle.cell_book.specs.Glimpses.{Glimpse, glimpse, Continues, Stays, FormStays, Reaches, IsForced, IsOpen, Holds, Onward, Answered, MadeOne, IsAll, Fits, Sees}
 
 pub continues_same : (x : Attempt) → Continues x x
 continues_same x = record { claim = refl; asker = refl; ended = λ e. refl }

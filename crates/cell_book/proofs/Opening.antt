@@ -1,7 +1,7 @@
 -- How often claims are open after each step, and that books stay sound.
-use Rattle.std.proofs.Common.{◌≡◌, ◌≢◌, ℕ, zero, suc, ◌+◌, ◌-◌, ◌<◌, ◌≤◌, ◌==◌, Bool, true, false, cond, List, [], ◌∷◌, ◌++◌, length, Some, None, Option, Ok, Err, refl, ap, sym, subst, ◌∙◌, arith, ◌⊎◌, inl, inr, eq-eqb, ne_eqb}
-use Rattle.std.specs.Prelude.{slice_get, slice_set, count_by}
-use Rattle.std.proofs.lemmas.Option.{none-some, same_Some}
+use Rattle.std.proofs.Common.{◌≡◌, ◌≢◌, ℕ, zero, suc, ◌+◌, ◌<◌, ◌≤◌, ◌==◌, Bool, true, false, cond, List, [], ◌∷◌, ◌++◌, length, Some, None, Option, refl, ap, subst, ◌∙◌, arith, ◌⊎◌, inl, inr, eq-eqb, ne_eqb}
+use Rattle.std.specs.Prelude.{slice_get}
+use Rattle.std.proofs.lemmas.Option.{none-some}
 use Rattle.seq_values.specs.declared.value.Value.{Value}
 use Rattle.seq_values.specs.declared.term.Term.{Term}
 use Rattle.seq_values.specs.declared.words.Kind.{Kind}
@@ -11,11 +11,10 @@ use Rattle.cell_book.specs.declared.cell.ClaimEnd.{ClaimEnd}
 use Rattle.cell_book.specs.declared.cell.Attempt.{Attempt}
 use Rattle.cell_book.specs.declared.cell.Cell.{Cell}
 use Rattle.cell_book.specs.declared.cell.Form.{Form}
-use Rattle.cell_book.specs.Account.{Account, Duty, numbered, cell_at, opened, closed, is_open, forces, runs, opens, made_by, made_from, IsUnnamed, IsFresh, IsSound}
+use Rattle.cell_book.specs.Account.{Account, Duty, numbered, cell_at, closed, is_open, forces, runs, opens, made_by, made_from, IsFresh, IsSound}
 use Rattle.cell_book.specs.Steps.{renumbered, with_cell, with_form, begun_form, new_cell, claimed, after_claim, HasOpen}
 use Rattle.cell_book.specs.Glimpses.{at_claim}
 use Rattle.cell_book.proofs.Lists.{count_push, count_set, counts_one, counts_two, counts_none, is_one, is_none, length_set, length_push}
-
 
 pub at_claim_same : (d c : ℕ) → d ≡ c → at_claim d c ≡ 1
 at_claim_same d c e = is_one (d == c) (eq-eqb d c e)

@@ -1,13 +1,12 @@
 -- What each step tells of a whole book: how often claims are open, that it stays sound, and that the work given is open and new.
-use Rattle.std.proofs.Common.{◌≡◌, ◌≢◌, ℕ, zero, suc, ◌+◌, ◌-◌, ◌<◌, ◌≤◌, Bool, true, false, List, [], ◌∷◌, ◌++◌, length, Some, None, Option, Ok, Err, Result, refl, ap, sym, subst, ◌∙◌, arith, inr}
-use Rattle.std.specs.Prelude.{slice_get, slice_set, IfOk}
-use Rattle.std.proofs.lemmas.Option.{none-some, same_Some}
+use Rattle.std.proofs.Common.{◌≡◌, ℕ, zero, suc, ◌+◌, ◌-◌, Bool, true, false, List, length, Some, None, Option, Ok, Err, refl, ap, sym, subst, ◌∙◌, arith, inr}
+use Rattle.std.specs.Prelude.{slice_get, IfOk}
+use Rattle.std.proofs.lemmas.Option.{none-some}
 use Rattle.seq_base.specs.declared.thrown.Thrown.{Thrown}
 use Rattle.seq_values.specs.declared.value.Value.{Value}
 use Rattle.seq_values.specs.declared.term.Term.{Term}
 use Rattle.seq_values.specs.declared.words.Kind.{Kind}
 use Rattle.seq_values.specs.declared.words.Kind.TheVariants.{Lazy, Future}
-use Rattle.cell_book.specs.declared.answers.Look.{Look}
 use Rattle.cell_book.specs.declared.answers.MakeRefusal.TheVariants as M
 use Rattle.cell_book.specs.declared.cell.State.{State}
 use Rattle.cell_book.specs.declared.cell.State.TheVariants as S
@@ -15,14 +14,13 @@ use Rattle.cell_book.specs.declared.cell.ClaimEnd.{ClaimEnd}
 use Rattle.cell_book.specs.declared.cell.ClaimEnd.TheVariants as E
 use Rattle.cell_book.specs.declared.cell.Attempt.{Attempt}
 use Rattle.cell_book.specs.declared.cell.Cell.{Cell}
-use Rattle.cell_book.specs.declared.cell.Form.{Form}
 use Rattle.cell_book.specs.declared.work.Place.{Place}
 use Rattle.cell_book.specs.declared.work.Place.TheVariants as P
-use Rattle.cell_book.specs.Account.{Account, Duty, cell_at, opened, is_open, forces, opens, IsFresh, IsSound}
-use Rattle.cell_book.specs.Steps.{with_cell, begun_form, claimed, BeginAnswer, MakeAnswer, LookAnswer, KindAnswer, ClaimAnswer, HasOpen, Begins, Makes, Looks, Kinds, Claims, Opens, Ends, Finishes, Fails, GivesUp, failed_state, IsOpenIn}
+use Rattle.cell_book.specs.Account.{Account, Duty, cell_at, is_open, forces, opens, IsSound}
+use Rattle.cell_book.specs.Steps.{begun_form, claimed, BeginAnswer, MakeAnswer, ClaimAnswer, HasOpen, Begins, Makes, Claims, Opens, Ends, Finishes, Fails, GivesUp, failed_state, IsOpenIn}
 use Rattle.cell_book.specs.Glimpses.{glimpse, Glimpse, Sees, SeesPlace, IsOpen, at_claim, after_open, after_end}
 use Rattle.cell_book.proofs.Lists.{get_last, set_here}
-use Rattle.cell_book.proofs.Opening.{numbered_some, begun_opens, made_opens, claimed_opens, ended_opens, form_opens, fresh_opens, begun_sound, made_sound, claimed_sound, ended_sound, form_sound}
+use Rattle.cell_book.proofs.Opening.{begun_opens, made_opens, claimed_opens, ended_opens, form_opens, fresh_opens, begun_sound, made_sound, claimed_sound, ended_sound, form_sound}
 
 -- claims that are open
 pub begins_opens : (a b : Account) (number : ℕ) (answer : BeginAnswer) → Begins a number answer b → (c : ℕ) → opens c b ≡ after_open (λ x. opens x a) answer c

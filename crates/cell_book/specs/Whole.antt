@@ -1,5 +1,5 @@
 -- One who is alone has seen the whole book.
-use Rattle.std.specs.Prelude.{◌≡◌, ℕ, refl}
+use Rattle.std.specs.Prelude.{◌≡◌, refl}
 use Rattle.std.proofs.Common.{subst, sym}
 use Rattle.cell_book.specs.Account.{Account, opens}
 use Rattle.cell_book.specs.Glimpses.{glimpse, IsAll}

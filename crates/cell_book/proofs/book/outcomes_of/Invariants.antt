@@ -1,4 +1,4 @@
-use Rattle.std.proofs.Common.{◌≡◌, ◌≤◌, length, take}
+use Rattle.std.proofs.Common.{◌≡◌, length, take}
 use Rattle.cell_book.specs.Steps.{values_in}
 use Rattle.cell_book.proofs.book.outcomes_of.Given as goal
 

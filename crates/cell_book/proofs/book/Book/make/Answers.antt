@@ -1,4 +1,4 @@
-use Rattle.std.proofs.Common.{◌≡◌, ◌++◌, ◌∷◌, [], ℕ, List, ◌+◌, ◌<◌, ◌≤◌, length, sym, ap, ◌∙◌, subst, arith}
+use Rattle.std.proofs.Common.{◌≡◌, ◌++◌, ◌∷◌, [], ℕ, List, ◌+◌, length, sym, ap, ◌∙◌, subst, arith}
 use Rattle.cell_book.specs.Account.{Account, Duty, made_by}
 use Rattle.cell_book.specs.Steps.{fresh_cell, HasCount, IsOpenIn}
 use Rattle.cell_book.proofs.Calls.{open_counted, noted_kept, made_kept_as}

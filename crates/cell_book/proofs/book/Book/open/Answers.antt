@@ -1,5 +1,4 @@
-use Rattle.std.proofs.Common.{◌≡◌, ◌≢◌, ◌∷◌, ℕ, List, Option, Some, sym, ap, ◌∙◌, subst, refl, le_refl, get_or}
-use Rattle.std.specs.Prelude.{slice_get, slice_set}
+use Rattle.std.proofs.Common.{◌≡◌, ◌≢◌, ℕ, List, Some, sym, ap, ◌∙◌, subst, le_refl, get_or}
 use Rattle.std.proofs.lemmas.Option.{same_Some}
 use Rattle.seq_values.specs.declared.term.Term.{Term}
 use Rattle.cell_book.specs.declared.work.Place.TheVariants as P
