@@ -22,7 +22,7 @@ use Rattle.cell_book.specs.Steps.{with_cell, with_form, begun_form, new_cell, cl
 use Rattle.cell_book.specs.Glimpses.{glimpse, Continues, Stays, FormStays, Reaches, IsForced, Holds, Onward, Answered, MadeOne}
 use Rattle.cell_book.proofs.Lists.{get_longer, get_last, get_snoc, set_here, set_other, same_or}
 use Rattle.cell_book.proofs.Keeping.{made_else, made_own, written_made, append_none}
-use Rattle.cell_book.proofs.Onwards.{continues_same, stays_same, form_stays_same, reaches_same, holds_same, onward_same}
+use Rattle.cell_book.proofs.Onwards.{continues_same, stays_same, form_stays_same, holds_then, onward_same}
 
 -- only notes change, and they stay
 module _ (a : Account) (spent gave_up : Bool) (s : a.spent ≡ true → spent ≡ true) (u : a.gave_up ≡ true → gave_up ≡ true) where
@@ -99,6 +99,10 @@ pub makes_here : (a b : Account) (by : Duty) (t : Term) (k : Kind) (id : ℕ) �
 makes_here a b by t k id h =
     let e : suc (length a.cells) ≡ id = let g = h.0 in omega arith in
     subst (λ (z : Account × ℕ). cell_at z.0 z.1 ≡ Some (new_cell a by t k)) (λ i. (sym h.2 i, e i)) (get_last a.cells (new_cell a by t k) (length a.cells) refl)
+
+pub makes_holds : (a b : Account) (by : Duty) (t : Term) (k : Kind) (answer : MakeAnswer) (c : ℕ) → Makes a by t k answer b → Holds c (glimpse a) (glimpse b)
+makes_holds a b by t k (Ok id) c h = subst (λ (x : Account). Holds c (glimpse a) (glimpse x)) (sym h.2) (made_holds a by t k c)
+makes_holds a b by t k (Err r) c h = (refused_own a b by t k r c h).holds
 
 -- one cell's claims change
 module _ (a : Account) (i c : ℕ) (p q : Cell) (at : slice_get a.cells i ≡ Some p) where
@@ -286,6 +290,26 @@ module _ (a b : Account) (w : Duty) (end : ClaimEnd) (state : Kind → State) (v
             here = ap (asked_at c) (written_here a i c p q e) ∙ (z ∙ ap (λ (l : List Attempt). l ++ closed w.claim (Some c) end ∷ []) (ap (asked_at c) (sym e)));
             elsewhere = λ j k. ap (asked_at c) (written_other a i c p q e j k);
           })
+
+-- what the others have open stays open
+pub ends_holds : (a b : Account) (w : Duty) (end : ClaimEnd) (state : Kind → State) (value : Option Value) (c : ℕ) → Ends a w end state value b → c ≢ w.claim → Holds c (glimpse a) (glimpse b)
+ends_holds a b w end state value c h d = at w.place h
+  where
+    at : (x : Place) → Ends a (record { place = x; claim = w.claim; outcomes = w.outcomes }) end state value b → Holds c (glimpse a) (glimpse b)
+    at (P.Form number k) (e, is) = subst (λ (z : Account). Holds c (glimpse a) (glimpse z)) (sym is) ((form_onward a k number w.claim end value c e d).holds)
+    at (P.Part zero kind term) (p, asker, past, e, o, is) = absurd (none-some p e)
+    at (P.Part (suc i) kind term) (p, asker, past, e, o, is) =
+        subst (λ (y : Account). Holds c (glimpse a) (glimpse y)) (sym is) (written_holds a i c p (after_claim p w.claim asker past end (state p.kind)) e (after_stays p w.claim asker past end (state p.kind) o) (λ s. d (forcing_same c w.claim (sym s ∙ o.state))))
+
+pub finishes_holds : (a b : Account) (w : Duty) (v : Value) (c : ℕ) → Finishes a w v b → c ≢ w.claim → Holds c (glimpse a) (glimpse b)
+finishes_holds a b w v c h d = ends_holds a b w E.Value (λ _. S.Done v) (Some v) c h d
+
+pub fails_holds : (a b : Account) (w : Duty) (why : Thrown) (c : ℕ) → Fails a w why b → c ≢ w.claim → Holds c (glimpse a) (glimpse b)
+fails_holds a b w why c h d = ends_holds a b w (E.Error why) (failed_state why) None c h d
+
+pub gives_up_holds : (a b : Account) (w : Duty) (c : ℕ) → GivesUp a w b → c ≢ w.claim → Holds c (glimpse a) (glimpse b)
+gives_up_holds a b w c (m, h, e) d =
+    subst (λ (z : Account). Holds c (glimpse a) (glimpse z)) (sym e) (holds_then c (glimpse a) (glimpse m) (glimpse (record m { gave_up = true })) (ends_holds a m w E.GivenUp (λ _. S.Empty) None c h d) (noted_holds m m.spent true (λ x. x) (λ x. refl) c))
 
 -- the three ways in which a claim ends
 failed_open : (why : Thrown) → is_open (E.Error why) ≡ false
