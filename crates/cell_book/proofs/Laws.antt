@@ -1,7 +1,7 @@
 -- A law P over each call: the book of the call meets it, what meets it is lawful, and after a step to a book that meets it all is as before.
-use Rattle.std.proofs.Common.{◌≡◌, ◌≢◌, ℕ, ◌+◌, ◌-◌, ◌<◌, Bool, true, false, refl, ap, sym, subst, arith}
+use Rattle.std.proofs.Common.{◌≡◌, ◌≢◌, ℕ, Result, Ok, Err, ◌+◌, ◌-◌, ◌<◌, Bool, true, false, refl, ap, sym, subst, arith}
 use Rattle.cell_book.specs.Account.{Account, Duty}
-use Rattle.cell_book.specs.Glimpses.{glimpse, Holds, Sees, Owns, Glimpse, Fits, LawIs, at_claim}
+use Rattle.cell_book.specs.Glimpses.{after_open, glimpse, Holds, Sees, Owns, Glimpse, Fits, LawIs, at_claim}
 use Rattle.cell_book.proofs.Onwards.{fits_onward, holds_then, holds_seen, open_onward}
 use Rattle.cell_book.proofs.Opening.{at_claim_same, at_claim_other}
 
@@ -42,3 +42,7 @@ ended_held mine mine2 w c h n m = let t = at_claim_other w.claim c (λ e. n (sym
 pub still_owns : (alone leads : Bool) (law noted : Account → Type 0) (g h : Glimpse) (mine mine2 : ℕ → ℕ) (a b : Account) (w : Duty) → Owns mine g w → Fits alone leads law noted g mine a → Holds w.claim (glimpse a) (glimpse b) → Sees leads mine2 g b h → 0 < mine2 w.claim → Owns mine2 h w
 still_owns alone leads law noted g h mine mine2 a b w o f x s m =
     (m, open_onward w g h (holds_seen leads mine2 w.claim g b h (holds_then w.claim g (glimpse a) (glimpse b) ((fits_onward alone leads law noted g mine a w.claim f o.0).holds) x) s) o.1)
+
+pub open_held : {E : Type 0} (mine : ℕ → ℕ) (answer : Result Duty E) (c : ℕ) → 0 < mine c → 0 < after_open mine answer c
+open_held mine (Ok w) c m = omega arith
+open_held mine (Err r) c m = m
