@@ -35,4 +35,3 @@ returns-clause-own g c =
     let st = c.make.ensures.step in
     let w = c.args.by.now in
     still_owns (C.alone s) (C.leads s) (C.law s) (C.noted s) (C.seen s) (C.seen t) (C.held s) (C.held t) st.0 st.1 w c.requires.own st.2 (makes_holds st.0 st.1 w _ c.args.kind c.make.result w.claim st.3) st.4.0 (subst (λ (n : ℕ). 0 < n) (sym (c.make.ensures.held w.claim)) c.requires.own.0)
-

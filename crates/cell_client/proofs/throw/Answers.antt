@@ -35,4 +35,3 @@ returns-clause-own g c =
     let st = c.fail.ensures.step in
     let w = c.args.by.now in
     still_owns (C.alone s) (C.leads s) (C.law s) (C.noted s) (C.seen s) (C.seen t) (C.held s) (C.held t) st.0 st.1 w c.requires.own st.2 (fails_holds st.0 st.1 c.args.work _ w.claim st.3 c.requires.apart) st.4.0 (ended_held (C.held s) (C.held t) c.args.work w.claim (c.fail.ensures.held w.claim) c.requires.apart c.requires.own.0)
-
