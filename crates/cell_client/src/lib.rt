@@ -5,6 +5,7 @@ ghost use Rattle.std.specs.Prelude.{◌≡◌, ◌≢◌, ℕ, true, Contains, I
 ghost use Rattle.seq_values.specs.declared.value.Value.TheVariants.{Int};
 ghost use Rattle.cell_book.specs.declared.answers.Look.TheVariants.{Done};
 ghost use Rattle.cell_book.specs.Steps.{shown};
+ghost use Rattle.cell_book.specs.Account.{Duty};
 ghost use Rattle.cell_book.specs.Glimpses.{Owns, LawIs};
 ghost use Rattle.cell_client.specs.Sevens.{IsSevens, IsOn};
 
@@ -74,6 +75,7 @@ pub fn ask<C: Cells>(cells: &mut C, by: &Work, id: CellId) -> Result<Work, Claim
     requires own { Owns (C.held cells.old) (C.seen cells.old) by.now }
     requires law { LawIs (C.alone cells.old) (C.law cells.old) (C.noted cells.old) IsSevens }
     ensures own { Owns (C.held cells.new) (C.seen cells.new) by.now }
+    ensures others { (w : Duty) → Owns (C.held cells.old) (C.seen cells.old) w → Owns (C.held cells.new) (C.seen cells.new) w }
     ensures asked { IfOk result (λ w. Owns (C.held cells.new) (C.seen cells.new) w) }
     ensures apart { IfOk result (λ w. by.now.claim ≢ w.claim) }
     ensures place { IfOk result (λ w. IsOn id w.place) }

@@ -36,3 +36,12 @@ returns-clause-own g c =
     let w = c.args.by.now in
     let h = c.claim.ensures.held w.claim in
     still_owns (C.alone s) (C.leads s) (C.law s) (C.noted s) (C.seen s) (C.seen t) (C.held s) (C.held t) st.0 st.1 w c.requires.own st.2 ((claims_onward st.0 st.1 c.args.id (Some w.claim) c.claim.result w.claim st.3).holds) st.4.0 (subst (λ (n : ℕ). 0 < n) (sym h) (open_held (C.held s) c.claim.result w.claim c.requires.own.0))
+
+pub returns-clause-others : goal.returns-clause-others
+returns-clause-others g c = λ w o. (
+    let C = g.C.Cells in
+    let s = c.args.cells.now in
+    let t = c.claim.new.self in
+    let st = c.claim.ensures.step in
+    let h = c.claim.ensures.held w.claim in
+    still_owns (C.alone s) (C.leads s) (C.law s) (C.noted s) (C.seen s) (C.seen t) (C.held s) (C.held t) st.0 st.1 w o st.2 ((claims_onward st.0 st.1 c.args.id (Some c.args.by.now.claim) c.claim.result w.claim st.3).holds) st.4.0 (subst (λ (n : ℕ). 0 < n) (sym h) (open_held (C.held s) c.claim.result w.claim o.0)))
