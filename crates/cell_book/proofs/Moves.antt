@@ -1,0 +1,347 @@
+-- What each step leaves of what one knows: of the claims of others, and of one's own.
+use Rattle.std.proofs.Common.{◌≡◌, ◌≢◌, ℕ, zero, suc, Bool, true, false, cond, List, [], ◌∷◌, ◌++◌, length, Some, None, Option, Ok, Err, refl, ap, sym, subst, ◌∙◌, arith, ◌⊎◌, inl, inr, eq-eqb, ne_eqb}
+use Rattle.std.specs.Prelude.{slice_get, slice_set}
+use Rattle.std.proofs.lemmas.Option.{none-some, same_Some}
+use Rattle.seq_base.specs.declared.thrown.Thrown.{Thrown}
+use Rattle.seq_values.specs.declared.value.Value.{Value}
+use Rattle.seq_values.specs.declared.term.Term.{Term}
+use Rattle.seq_values.specs.declared.words.Kind.{Kind}
+use Rattle.cell_book.specs.declared.answers.Look.TheVariants as L
+use Rattle.cell_book.specs.declared.answers.MakeRefusal.TheVariants as M
+use Rattle.cell_book.specs.declared.cell.State.{State}
+use Rattle.cell_book.specs.declared.cell.State.TheVariants as S
+use Rattle.cell_book.specs.declared.cell.ClaimEnd.{ClaimEnd}
+use Rattle.cell_book.specs.declared.cell.ClaimEnd.TheVariants as E
+use Rattle.cell_book.specs.declared.cell.Attempt.{Attempt}
+use Rattle.cell_book.specs.declared.cell.Cell.{Cell}
+use Rattle.cell_book.specs.declared.cell.Form.{Form}
+use Rattle.cell_book.specs.declared.work.Place.{Place}
+use Rattle.cell_book.specs.declared.work.Place.TheVariants as P
+use Rattle.cell_book.specs.Account.{Account, Duty, cell_at, opened, closed, is_open, is_asker, asked_by, asked_at}
+use Rattle.cell_book.specs.Steps.{with_cell, with_form, begun_form, new_cell, claimed, after_claim, BeginAnswer, MakeAnswer, LookAnswer, KindAnswer, ClaimAnswer, HasOpen, Begins, Makes, Looks, Kinds, Claims, Ends, Finishes, Fails, GivesUp, failed_state, shown, shown_state}
+use Rattle.cell_book.specs.Glimpses.{glimpse, Continues, Stays, FormStays, Reaches, IsForced, Holds, Onward, Answered, MadeOne}
+use Rattle.cell_book.proofs.Lists.{get_longer, get_last, get_snoc, set_here, set_other, same_or}
+use Rattle.cell_book.proofs.Keeping.{made_else, made_own, written_made, append_none}
+use Rattle.cell_book.proofs.Onwards.{continues_same, stays_same, form_stays_same, holds_then, onward_same}
+
+-- only notes change, and they stay
+module _ (a : Account) (spent gave_up : Bool) (s : a.spent ≡ true → spent ≡ true) (u : a.gave_up ≡ true → gave_up ≡ true) where
+  abbrev noted : Account
+  noted = record { limit = a.limit; cells = a.cells; forms = a.forms; spent = spent; gave_up = gave_up }
+
+  pub noted_holds : (c : ℕ) → Holds c (glimpse a) (glimpse noted)
+  noted_holds c = record {
+    reaches = record { limit = refl; cells = λ id p e. (p, e, stays_same p); forms = λ k f e. (f, e, form_stays_same f); spent = s; gave_up = u };
+    forced = λ id asker f. record { cell = f.cell; past = f.past; at = f.at; has = f.has };
+    begun = λ k n e. e;
+  }
+
+  pub noted_onward : (c : ℕ) → Onward c (glimpse a) (glimpse noted)
+  noted_onward c = record { holds = noted_holds c; made = refl; asked = λ id. refl }
+
+pub looks_onward : (a b : Account) (id : ℕ) (answer : LookAnswer) (c : ℕ) → Looks a id answer b → Onward c (glimpse a) (glimpse b)
+looks_onward a b id answer c l = subst (λ (x : Account). Onward c (glimpse a) (glimpse x)) (sym l.0) (onward_same c (glimpse a))
+
+pub kinds_onward : (a b : Account) (id : ℕ) (answer : KindAnswer) (c : ℕ) → Kinds a id answer b → Onward c (glimpse a) (glimpse b)
+kinds_onward a b id answer c l = subst (λ (x : Account). Onward c (glimpse a) (glimpse x)) (sym l.0) (onward_same c (glimpse a))
+
+-- a form is begun
+pub begins_onward : (a b : Account) (number : ℕ) (answer : BeginAnswer) (c : ℕ) → Begins a number answer b → Onward c (glimpse a) (glimpse b)
+begins_onward a b number (Err r) c h = subst (λ (x : Account). Onward c (glimpse a) (glimpse x)) (sym h) (onward_same c (glimpse a))
+begins_onward a b number (Ok w) c h = subst (λ (x : Account). Onward c (glimpse a) (glimpse x)) (sym h.3) (record {
+  holds = record {
+    reaches = record { limit = refl; cells = λ id p e. (p, e, stays_same p); forms = λ k f e. (f, get_longer a.forms k (begun_form number w.claim) f e, form_stays_same f); spent = λ e. e; gave_up = λ e. e };
+    forced = λ id asker f. record { cell = f.cell; past = f.past; at = f.at; has = f.has };
+    begun = λ k n e. get_longer a.forms k (begun_form number w.claim) (begun_form n c) e;
+  };
+  made = refl;
+  asked = λ id. refl;
+})
+
+-- a cell is made
+cell_longer : (a : Account) (x : Cell) (id : ℕ) (p : Cell) → cell_at a id ≡ Some p → cell_at (record a { cells = a.cells ++ x ∷ [] }) id ≡ Some p
+cell_longer a x zero p e = absurd (none-some p e)
+cell_longer a x (suc i) p e = get_longer a.cells i x p e
+
+asked_push : (c : ℕ) (xs : List Cell) (x : Cell) (i : ℕ) → x.attempts ≡ [] → asked_at c (slice_get (xs ++ x ∷ []) i) ≡ asked_at c (slice_get xs i)
+asked_push c [] x zero e = ap (asked_by c) e
+asked_push c [] x (suc i) e = refl
+asked_push c (y ∷ xs) x zero e = refl
+asked_push c (y ∷ xs) x (suc i) e = asked_push c xs x i e
+
+made_asked : (a : Account) (by : Duty) (t : Term) (k : Kind) (c id : ℕ) → asked_at c (cell_at (record a { cells = a.cells ++ new_cell a by t k ∷ [] }) id) ≡ asked_at c (cell_at a id)
+made_asked a by t k c zero = refl
+made_asked a by t k c (suc i) = asked_push c a.cells (new_cell a by t k) i refl
+
+made_holds : (a : Account) (by : Duty) (t : Term) (k : Kind) (c : ℕ) → Holds c (glimpse a) (glimpse (record a { cells = a.cells ++ new_cell a by t k ∷ [] }))
+made_holds a by t k c = record {
+  reaches = record { limit = refl; cells = λ id p e. (p, cell_longer a (new_cell a by t k) id p e, stays_same p); forms = λ i f e. (f, e, form_stays_same f); spent = λ e. e; gave_up = λ e. e };
+  forced = λ id asker f. record { cell = f.cell; past = f.past; at = cell_longer a (new_cell a by t k) id f.cell f.at; has = f.has };
+  begun = λ i n e. e;
+}
+
+pub makes_onward : (a b : Account) (by : Duty) (t : Term) (k : Kind) (answer : MakeAnswer) (c : ℕ) → Makes a by t k answer b → c ≢ by.claim → Onward c (glimpse a) (glimpse b)
+makes_onward a b by t k (Ok id) c h n = subst (λ (x : Account). Onward c (glimpse a) (glimpse x)) (sym h.2) (record { holds = made_holds a by t k c; made = made_else a by t k c (λ e. n (sym e)); asked = λ id. made_asked a by t k c id })
+makes_onward a b by t k (Err (M.Spent back)) c h n = subst (λ (x : Account). Onward c (glimpse a) (glimpse x)) (sym h.2) (noted_onward a true a.gave_up (λ e. refl) (λ e. e) c)
+makes_onward a b by t k (Err (M.Memory back)) c h n = subst (λ (x : Account). Onward c (glimpse a) (glimpse x)) (sym h.1) (onward_same c (glimpse a))
+
+-- the maker's own claim
+pub makes_own : (a b : Account) (by : Duty) (t : Term) (k : Kind) (id : ℕ) → Makes a by t k (Ok id) b → MadeOne by.claim id (glimpse a) (glimpse b)
+makes_own a b by t k id h =
+    let e : suc (length a.cells) ≡ id = let g = h.0 in omega arith in
+    subst (λ (z : Account × ℕ). MadeOne by.claim z.1 (glimpse a) (glimpse z.0)) (λ i. (sym h.2 i, e i)) (record { holds = made_holds a by t k by.claim; made = made_own a by t k by.claim refl; asked = λ j. made_asked a by t k by.claim j })
+
+pub refused_own : (a b : Account) (by : Duty) (t : Term) (k : Kind) (r : _) (c : ℕ) → Makes a by t k (Err r) b → Onward c (glimpse a) (glimpse b)
+refused_own a b by t k (M.Spent back) c h = subst (λ (x : Account). Onward c (glimpse a) (glimpse x)) (sym h.2) (noted_onward a true a.gave_up (λ e. refl) (λ e. e) c)
+refused_own a b by t k (M.Memory back) c h = subst (λ (x : Account). Onward c (glimpse a) (glimpse x)) (sym h.1) (onward_same c (glimpse a))
+
+pub makes_here : (a b : Account) (by : Duty) (t : Term) (k : Kind) (id : ℕ) → Makes a by t k (Ok id) b → cell_at b id ≡ Some (new_cell a by t k)
+makes_here a b by t k id h =
+    let e : suc (length a.cells) ≡ id = let g = h.0 in omega arith in
+    subst (λ (z : Account × ℕ). cell_at z.0 z.1 ≡ Some (new_cell a by t k)) (λ i. (sym h.2 i, e i)) (get_last a.cells (new_cell a by t k) (length a.cells) refl)
+
+pub makes_holds : (a b : Account) (by : Duty) (t : Term) (k : Kind) (answer : MakeAnswer) (c : ℕ) → Makes a by t k answer b → Holds c (glimpse a) (glimpse b)
+makes_holds a b by t k (Ok id) c h = subst (λ (x : Account). Holds c (glimpse a) (glimpse x)) (sym h.2) (made_holds a by t k c)
+makes_holds a b by t k (Err r) c h = (refused_own a b by t k r c h).holds
+
+-- one cell's claims change
+module _ (a : Account) (i c : ℕ) (p q : Cell) (at : slice_get a.cells i ≡ Some p) where
+  written_here : cell_at (with_cell a (suc i) q) (suc i) ≡ Some q
+  written_here = set_here a.cells i p q at
+
+  written_other : (id : ℕ) → id ≢ suc i → cell_at (with_cell a (suc i) q) id ≡ cell_at a id
+  written_other zero n = refl
+  written_other (suc j) n = set_other a.cells i j q (λ e. n (ap suc e))
+
+  written_reaches : Stays p q → Reaches (glimpse a) (glimpse (with_cell a (suc i) q))
+  written_reaches s = record { limit = refl; cells = λ id x f. cell id x f (same_or id (suc i)); forms = λ k f e. (f, e, form_stays_same f); spent = λ e. e; gave_up = λ e. e }
+    where
+      cell : (id : ℕ) (x : Cell) → cell_at a id ≡ Some x → (id ≡ suc i) ⊎ (id ≢ suc i) → (y : Cell) × (cell_at (with_cell a (suc i) q) id ≡ Some y) × Stays x y
+      cell id x f (inl g) =
+          let h : p ≡ x = same_Some p x (sym at ∙ (ap (λ k. cell_at a k) (sym g) ∙ f)) in
+          (q, ap (λ k. cell_at (with_cell a (suc i) q) k) g ∙ written_here, subst (λ z. Stays z q) h s)
+      cell id x f (inr n) = (x, written_other id n ∙ f, stays_same x)
+
+  written_forced : (p.state ≢ S.Forcing c) → (id : ℕ) (asker : Option ℕ) → IsForced (glimpse a) id c asker → IsForced (glimpse (with_cell a (suc i) q)) id c asker
+  written_forced never id asker f = by (same_or id (suc i))
+    where
+      by : (id ≡ suc i) ⊎ (id ≢ suc i) → IsForced (glimpse (with_cell a (suc i) q)) id c asker
+      by (inl g) =
+          let h : p ≡ f.cell = same_Some p f.cell (sym at ∙ (ap (λ k. cell_at a k) (sym g) ∙ f.at)) in
+          absurd (never (ap (λ (y : Cell). y.state) h ∙ f.has.state))
+      by (inr n) = record { cell = f.cell; past = f.past; at = written_other id n ∙ f.at; has = f.has }
+
+  pub written_holds : Stays p q → p.state ≢ S.Forcing c → Holds c (glimpse a) (glimpse (with_cell a (suc i) q))
+  written_holds s never = record { reaches = written_reaches s; forced = written_forced never; begun = λ k n e. e }
+
+  written_asked : asked_by c q.attempts ≡ asked_by c p.attempts → (id : ℕ) → asked_at c (cell_at (with_cell a (suc i) q) id) ≡ asked_at c (cell_at a id)
+  written_asked t id = by (same_or id (suc i))
+    where
+      by : (id ≡ suc i) ⊎ (id ≢ suc i) → asked_at c (cell_at (with_cell a (suc i) q) id) ≡ asked_at c (cell_at a id)
+      by (inl g) = ap (λ k. asked_at c (cell_at (with_cell a (suc i) q) k)) g ∙ (ap (asked_at c) written_here ∙ (t ∙ (ap (asked_at c) (sym at) ∙ ap (λ k. asked_at c (cell_at a k)) (sym g))))
+      by (inr n) = ap (asked_at c) (written_other id n)
+
+  pub written_onward : Stays p q → p.state ≢ S.Forcing c → asked_by c q.attempts ≡ asked_by c p.attempts → Onward c (glimpse a) (glimpse (with_cell a (suc i) q))
+  written_onward s never t = record { holds = written_holds s never; made = written_made a i c p q at s.maker; asked = written_asked t }
+
+asked_more : (c : ℕ) (xs : List Attempt) (x : Attempt) → asked_by c (xs ++ x ∷ []) ≡ asked_by c xs ++ cond (cond (is_open x.end) false (is_asker c x.asker)) (x ∷ []) []
+asked_more c [] x = refl
+asked_more c (y ∷ xs) x = at (cond (is_open y.end) false (is_asker c y.asker)) _ _ _ (asked_more c xs x)
+  where
+    at : (t : Bool) (m n k : List Attempt) → m ≡ n ++ k → cond t (y ∷ m) m ≡ cond t (y ∷ n) n ++ k
+    at true m n k r = ap (λ l. y ∷ l) r
+    at false m n k r = r
+
+-- a claim is opened
+empty_done : (v : Value) → S.Empty ≡ S.Done v → ⊥
+empty_done v e = cc
+
+empty_failed : (w : Thrown) → S.Empty ≡ S.Failed w → ⊥
+empty_failed w e = cc
+
+empty_forcing : (c : ℕ) → S.Empty ≡ S.Forcing c → ⊥
+empty_forcing c e = cc
+
+claimed_stays : (p : Cell) (claim : ℕ) (asker : Option ℕ) → p.state ≡ S.Empty → Stays p (claimed p claim asker)
+claimed_stays p claim asker s = record {
+  term = refl;
+  kind = refl;
+  maker = refl;
+  ordinal = refl;
+  outcomes = refl;
+  done = λ v e. absurd (empty_done v (sym s ∙ e));
+  failed = λ w e. absurd (empty_failed w (sym s ∙ e));
+  attempts = λ i x e. (x, get_longer p.attempts i (opened claim asker) x e, continues_same x);
+}
+
+pub claims_onward : (a b : Account) (id : ℕ) (asker : Option ℕ) (answer : ClaimAnswer) (c : ℕ) → Claims a id asker answer b → Onward c (glimpse a) (glimpse b)
+claims_onward a b id asker (Err r) c h = subst (λ (x : Account). Onward c (glimpse a) (glimpse x)) (sym h.0) (onward_same c (glimpse a))
+claims_onward a b zero asker (Ok w) c (n, (p, at, s, f, x, y, is)) = absurd (none-some p at)
+claims_onward a b (suc i) asker (Ok w) c (n, (p, at, s, f, x, y, is)) =
+    subst (λ (z : Account). Onward c (glimpse a) (glimpse z)) (sym is)
+    (written_onward a i c p (claimed p w.claim asker) at (claimed_stays p w.claim asker s) (λ e. empty_forcing c (sym s ∙ e)) (asked_more c p.attempts (opened w.claim asker) ∙ append_none (asked_by c p.attempts)))
+
+-- a claim on a cell ends
+forcing_done : (c : ℕ) (v : Value) → S.Forcing c ≡ S.Done v → ⊥
+forcing_done c v e = cc
+
+forcing_failed : (c : ℕ) (w : Thrown) → S.Forcing c ≡ S.Failed w → ⊥
+forcing_failed c w e = cc
+
+forcing_same : (c d : ℕ) → S.Forcing c ≡ S.Forcing d → c ≡ d
+forcing_same c d e = cc
+
+after_stays : (p : Cell) (claim : ℕ) (asker : Option ℕ) (past : List Attempt) (end : ClaimEnd) (state : State) → HasOpen p claim asker past → Stays p (after_claim p claim asker past end state)
+after_stays p claim asker past end state h = record {
+  term = refl;
+  kind = refl;
+  maker = refl;
+  ordinal = refl;
+  outcomes = refl;
+  done = λ v e. absurd (forcing_done claim v (sym h.state ∙ e));
+  failed = λ w e. absurd (forcing_failed claim w (sym h.state ∙ e));
+  attempts = λ i x e. at i x (get_snoc past i (opened claim asker) x (ap (λ l. slice_get l i) (sym h.attempts) ∙ e));
+}
+  where
+    still : true ≡ false → ⊥
+    still e = cc
+
+    at : (i : ℕ) (x : Attempt) → ((i ≡ length past) × (opened claim asker ≡ x)) ⊎ (slice_get past i ≡ Some x) → (y : Attempt) × (slice_get (past ++ closed claim asker end ∷ []) i ≡ Some y) × Continues x y
+    at i x (inl s) = (closed claim asker end, get_last past (closed claim asker end) i s.0, subst (λ (z : Attempt). Continues z (closed claim asker end)) s.1 (record { claim = refl; asker = refl; ended = λ e. absurd (still e) }))
+    at i x (inr s) = (x, get_longer past i (closed claim asker end) x s, continues_same x)
+
+after_asked : (c : ℕ) (p : Cell) (claim : ℕ) (asker : Option ℕ) (past : List Attempt) (end : ClaimEnd) (state : State) → HasOpen p claim asker past → is_open end ≡ false → asked_by c (after_claim p claim asker past end state).attempts ≡ asked_by c p.attempts ++ cond (is_asker c asker) (closed claim asker end ∷ []) []
+after_asked c p claim asker past end state h n =
+    asked_more c past (closed claim asker end) ∙
+    (ap (λ (b : Bool). asked_by c past ++ cond (cond b false (is_asker c asker)) (closed claim asker end ∷ []) []) n ∙ ap (λ l. l ++ cond (is_asker c asker) (closed claim asker end ∷ []) []) (sym (ap (asked_by c) h.attempts ∙ (asked_more c past (opened claim asker) ∙ append_none (asked_by c past)))))
+
+form_stays : (number claim : ℕ) (end : ClaimEnd) (value : Option Value) → FormStays (begun_form number claim) (record { number = number; attempt = closed claim None end; value = value })
+form_stays number claim end value = record { number = refl; attempt = record { claim = refl; asker = refl; ended = λ e. absurd (still e) }; value = λ e. absurd (still e) }
+  where
+    still : true ≡ false → ⊥
+    still e = cc
+
+-- a claim on a form ends
+pub form_onward : (a : Account) (k number claim : ℕ) (end : ClaimEnd) (value : Option Value) (c : ℕ) → slice_get a.forms k ≡ Some (begun_form number claim) → c ≢ claim → Onward c (glimpse a) (glimpse (with_form a k (record { number = number; attempt = closed claim None end; value = value })))
+form_onward a k number claim end value c at n = record {
+  holds = record {
+    reaches = record { limit = refl; cells = λ id p e. (p, e, stays_same p); forms = λ j f e. form j f e (same_or j k); spent = λ e. e; gave_up = λ e. e };
+    forced = λ id asker f. record { cell = f.cell; past = f.past; at = f.at; has = f.has };
+    begun = λ j m e. begun j m e (same_or j k);
+  };
+  made = refl;
+  asked = λ id. refl;
+}
+  where
+    q : Form
+    q = record { number = number; attempt = closed claim None end; value = value }
+
+    form : (j : ℕ) (f : Form) → slice_get a.forms j ≡ Some f → (j ≡ k) ⊎ (j ≢ k) → (g : Form) × (slice_get (slice_set a.forms k q) j ≡ Some g) × FormStays f g
+    form j f e (inl s) =
+        let h : begun_form number claim ≡ f = same_Some (begun_form number claim) f (sym at ∙ (ap (slice_get a.forms) (sym s) ∙ e)) in
+        (q, ap (slice_get (slice_set a.forms k q)) s ∙ set_here a.forms k (begun_form number claim) q at, subst (λ z. FormStays z q) h (form_stays number claim end value))
+    form j f e (inr d) = (f, set_other a.forms k j q d ∙ e, form_stays_same f)
+
+    begun : (j m : ℕ) → slice_get a.forms j ≡ Some (begun_form m c) → (j ≡ k) ⊎ (j ≢ k) → slice_get (slice_set a.forms k q) j ≡ Some (begun_form m c)
+    begun j m e (inl s) = absurd (n (ap (λ (f : Form). f.attempt.claim) (same_Some (begun_form m c) (begun_form number claim) (sym e ∙ (ap (slice_get a.forms) s ∙ at)))))
+    begun j m e (inr d) = set_other a.forms k j q d ∙ e
+
+module _ (a b : Account) (w : Duty) (end : ClaimEnd) (state : Kind → State) (value : Option Value) (c : ℕ) (n : is_open end ≡ false) where
+  pub ends_onward : Ends a w end state value b → c ≢ w.claim → ((id : ℕ) → ¬ IsForced (glimpse a) id w.claim (Some c)) → Onward c (glimpse a) (glimpse b)
+  ends_onward h d never = at w.place h
+    where
+      not_asker : (o : Option ℕ) → o ≢ Some c → is_asker c o ≡ false
+      not_asker None k = refl
+      not_asker (Some x) k = ne_eqb x c (λ e. k (ap Some e))
+
+      at : (x : Place) → Ends a (record { place = x; claim = w.claim; outcomes = w.outcomes }) end state value b → Onward c (glimpse a) (glimpse b)
+      at (P.Form number k) (e, is) = subst (λ (z : Account). Onward c (glimpse a) (glimpse z)) (sym is) (form_onward a k number w.claim end value c e d)
+      at (P.Part zero kind term) (p, asker, past, e, o, is) = absurd (none-some p e)
+      at (P.Part (suc i) kind term) (p, asker, past, e, o, is) =
+          let other : asker ≢ Some c = λ s. never (suc i) (record { cell = p; past = past; at = e; has = subst (λ (y : Option ℕ). HasOpen p w.claim y past) s o }) in
+          let z = after_asked c p w.claim asker past end (state p.kind) o n in
+          subst (λ (y : Account). Onward c (glimpse a) (glimpse y)) (sym is)
+          (written_onward a i c p (after_claim p w.claim asker past end (state p.kind)) e (after_stays p w.claim asker past end (state p.kind) o) (λ s. d (forcing_same c w.claim (sym s ∙ o.state))) (z ∙ (ap (λ (t : Bool). asked_by c p.attempts ++ cond t (closed w.claim asker end ∷ []) []) (not_asker asker other) ∙ append_none (asked_by c p.attempts))))
+
+  -- the claim that c asked for ends
+  pub ends_answered : (id : ℕ) (kind : Kind) (term : Term) → w.place ≡ P.Part id kind term → Ends a w end state value b → c ≢ w.claim → IsForced (glimpse a) id w.claim (Some c) → Answered c id (closed w.claim (Some c) end) (glimpse a) (glimpse b)
+  ends_answered id kind term place h d f = at id f (subst (λ (x : Place). Ends a (record { place = x; claim = w.claim; outcomes = w.outcomes }) end state value b) place h)
+    where
+      last_same : (xs ys : List Attempt) (x y : Attempt) → xs ++ x ∷ [] ≡ ys ++ y ∷ [] → x ≡ y
+      last_same [] [] x y e = cc
+      last_same [] (z ∷ []) x y e = absurd cc
+      last_same [] (z ∷ (u ∷ ys)) x y e = absurd cc
+      last_same (z ∷ []) [] x y e = absurd cc
+      last_same (z ∷ (u ∷ xs)) [] x y e = absurd cc
+      last_same (z ∷ xs) (u ∷ ys) x y e = let t : xs ++ x ∷ [] ≡ ys ++ y ∷ [] = cc in last_same xs ys x y t
+
+      at : (j : ℕ) → IsForced (glimpse a) j w.claim (Some c) → Ends a (record { place = P.Part j kind term; claim = w.claim; outcomes = w.outcomes }) end state value b → Answered c j (closed w.claim (Some c) end) (glimpse a) (glimpse b)
+      at zero g (p, asker, past, e, o, is) = absurd (none-some p e)
+      at (suc i) g (p, asker, past, e, o, is) =
+          let same : p ≡ g.cell = same_Some p g.cell (sym e ∙ g.at) in
+          let open_same : opened w.claim asker ≡ opened w.claim (Some c) = last_same past g.past (opened w.claim asker) (opened w.claim (Some c)) (sym o.attempts ∙ (ap (λ (x : Cell). x.attempts) same ∙ g.has.attempts)) in
+          let who : asker ≡ Some c = ap (λ (x : Attempt). x.asker) open_same in
+          let q = after_claim p w.claim asker past end (state p.kind) in
+          let t : is_asker c asker ≡ true = ap (is_asker c) who ∙ eq-eqb c c refl in
+          let z : asked_by c q.attempts ≡ asked_by c p.attempts ++ closed w.claim (Some c) end ∷ [] = after_asked c p w.claim asker past end (state p.kind) o n ∙ (ap (λ (y : Bool). asked_by c p.attempts ++ cond y (closed w.claim asker end ∷ []) []) t ∙ ap (λ (y : Option ℕ). asked_by c p.attempts ++ closed w.claim y end ∷ []) who) in
+          subst (λ (y : Account). Answered c (suc i) (closed w.claim (Some c) end) (glimpse a) (glimpse y)) (sym is) (record {
+            holds = written_holds a i c p q e (after_stays p w.claim asker past end (state p.kind) o) (λ s. d (forcing_same c w.claim (sym s ∙ o.state)));
+            made = written_made a i c p q e refl;
+            here = ap (asked_at c) (written_here a i c p q e) ∙ (z ∙ ap (λ (l : List Attempt). l ++ closed w.claim (Some c) end ∷ []) (ap (asked_at c) (sym e)));
+            elsewhere = λ j k. ap (asked_at c) (written_other a i c p q e j k);
+          })
+
+-- what the others have open stays open
+pub ends_holds : (a b : Account) (w : Duty) (end : ClaimEnd) (state : Kind → State) (value : Option Value) (c : ℕ) → Ends a w end state value b → c ≢ w.claim → Holds c (glimpse a) (glimpse b)
+ends_holds a b w end state value c h d = at w.place h
+  where
+    at : (x : Place) → Ends a (record { place = x; claim = w.claim; outcomes = w.outcomes }) end state value b → Holds c (glimpse a) (glimpse b)
+    at (P.Form number k) (e, is) = subst (λ (z : Account). Holds c (glimpse a) (glimpse z)) (sym is) ((form_onward a k number w.claim end value c e d).holds)
+    at (P.Part zero kind term) (p, asker, past, e, o, is) = absurd (none-some p e)
+    at (P.Part (suc i) kind term) (p, asker, past, e, o, is) =
+        subst (λ (y : Account). Holds c (glimpse a) (glimpse y)) (sym is) (written_holds a i c p (after_claim p w.claim asker past end (state p.kind)) e (after_stays p w.claim asker past end (state p.kind) o) (λ s. d (forcing_same c w.claim (sym s ∙ o.state))))
+
+pub finishes_holds : (a b : Account) (w : Duty) (v : Value) (c : ℕ) → Finishes a w v b → c ≢ w.claim → Holds c (glimpse a) (glimpse b)
+finishes_holds a b w v c h d = ends_holds a b w E.Value (λ _. S.Done v) (Some v) c h d
+
+pub fails_holds : (a b : Account) (w : Duty) (why : Thrown) (c : ℕ) → Fails a w why b → c ≢ w.claim → Holds c (glimpse a) (glimpse b)
+fails_holds a b w why c h d = ends_holds a b w (E.Error why) (failed_state why) None c h d
+
+pub gives_up_holds : (a b : Account) (w : Duty) (c : ℕ) → GivesUp a w b → c ≢ w.claim → Holds c (glimpse a) (glimpse b)
+gives_up_holds a b w c (m, h, e) d =
+    subst (λ (z : Account). Holds c (glimpse a) (glimpse z)) (sym e) (holds_then c (glimpse a) (glimpse m) (glimpse (record m { gave_up = true })) (ends_holds a m w E.GivenUp (λ _. S.Empty) None c h d) (noted_holds m m.spent true (λ x. x) (λ x. refl) c))
+
+-- the three ways in which a claim ends
+failed_open : (why : Thrown) → is_open (E.Error why) ≡ false
+failed_open why = refl
+
+pub finishes_onward : (a b : Account) (w : Duty) (v : Value) (c : ℕ) → Finishes a w v b → c ≢ w.claim → ((id : ℕ) → ¬ IsForced (glimpse a) id w.claim (Some c)) → Onward c (glimpse a) (glimpse b)
+finishes_onward a b w v c h d never = ends_onward a b w E.Value (λ _. S.Done v) (Some v) c refl h d never
+
+pub finishes_answered : (a b : Account) (w : Duty) (v : Value) (c id : ℕ) (kind : Kind) (term : Term) → w.place ≡ P.Part id kind term → Finishes a w v b → c ≢ w.claim → IsForced (glimpse a) id w.claim (Some c) → Answered c id (closed w.claim (Some c) E.Value) (glimpse a) (glimpse b)
+finishes_answered a b w v c id kind term place h d f = ends_answered a b w E.Value (λ _. S.Done v) (Some v) c refl id kind term place h d f
+
+pub fails_onward : (a b : Account) (w : Duty) (why : Thrown) (c : ℕ) → Fails a w why b → c ≢ w.claim → ((id : ℕ) → ¬ IsForced (glimpse a) id w.claim (Some c)) → Onward c (glimpse a) (glimpse b)
+fails_onward a b w why c h d never = ends_onward a b w (E.Error why) (failed_state why) None c refl h d never
+
+pub fails_answered : (a b : Account) (w : Duty) (why : Thrown) (c id : ℕ) (kind : Kind) (term : Term) → w.place ≡ P.Part id kind term → Fails a w why b → c ≢ w.claim → IsForced (glimpse a) id w.claim (Some c) → Answered c id (closed w.claim (Some c) (E.Error why)) (glimpse a) (glimpse b)
+fails_answered a b w why c id kind term place h d f = ends_answered a b w (E.Error why) (failed_state why) None c refl id kind term place h d f
+
+pub gives_up_onward : (a b : Account) (w : Duty) (c : ℕ) → GivesUp a w b → c ≢ w.claim → ((id : ℕ) → ¬ IsForced (glimpse a) id w.claim (Some c)) → Onward c (glimpse a) (glimpse b)
+gives_up_onward a b w c (m, h, e) d never =
+    subst (λ (z : Account). Onward c (glimpse a) (glimpse z)) (sym e) (Rattle.cell_book.proofs.Onwards.onward_then c (glimpse a) (glimpse m) (glimpse (record m { gave_up = true })) (ends_onward a m w E.GivenUp (λ _. S.Empty) None c refl h d never) (noted_onward m m.spent true (λ x. x) (λ x. refl) c))
+
+-- what a part shows after its claim ended
+pub ends_shown : (a b : Account) (w : Duty) (end : ClaimEnd) (state : Kind → State) (value : Option Value) (id : ℕ) (kind : Kind) (term : Term) → w.place ≡ P.Part id kind term → Ends a w end state value b → (p : Cell) × (cell_at b id ≡ Some p) × ((k : Kind) × (p.state ≡ state k))
+ends_shown a b w end state value id kind term place h = at id (subst (λ (x : Place). Ends a (record { place = x; claim = w.claim; outcomes = w.outcomes }) end state value b) place h)
+  where
+    at : (j : ℕ) → Ends a (record { place = P.Part j kind term; claim = w.claim; outcomes = w.outcomes }) end state value b → (p : Cell) × (cell_at b j ≡ Some p) × ((k : Kind) × (p.state ≡ state k))
+    at zero (p, asker, past, e, o, is) = absurd (none-some p e)
+    at (suc i) (p, asker, past, e, o, is) =
+        let q = after_claim p w.claim asker past end (state p.kind) in
+        (q, ap (λ (z : Account). cell_at z (suc i)) is ∙ set_here a.cells i p q e, (p.kind, refl))
+
+pub finishes_shown : (a b : Account) (w : Duty) (v : Value) (id : ℕ) (kind : Kind) (term : Term) → w.place ≡ P.Part id kind term → Finishes a w v b → shown (cell_at b id) ≡ L.Done v
+finishes_shown a b w v id kind term place h =
+    let s = ends_shown a b w E.Value (λ _. S.Done v) (Some v) id kind term place h in
+    ap shown s.1 ∙ ap shown_state s.2.1

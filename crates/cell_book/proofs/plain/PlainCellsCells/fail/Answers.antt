@@ -1,0 +1,11 @@
+use Rattle.std.proofs.Common.{refl}
+use Rattle.cell_book.specs.Glimpses.{glimpse}
+use Rattle.cell_book.specs.Whole.{is_all}
+use Rattle.cell_book.proofs.Stepping.{fails_opens, sees_whole, sees_place}
+use Rattle.cell_book.proofs.plain.PlainCellsCells.fail.Goals as goal
+
+pub returns-clause-held : goal.returns-clause-held
+returns-clause-held c = fails_opens c.args.self.now.book.now c.fail.new.self c.args.work c.args.why c.fail.ensures
+
+pub returns-clause-step : goal.returns-clause-step
+returns-clause-step c = (c.args.self.now.book.now, c.fail.new.self, (refl, is_all c.args.self.now.book.now c.args.self.now.book.now refl), c.fail.ensures, (sees_whole _ _ (glimpse c.args.self.now.book.now) c.fail.new.self, λ _. refl), sees_place c.args.work.place c.fail.new.self)

@@ -1,0 +1,20 @@
+-- What a book keeps beside what contracts see of it: counts of makes, the values of the first forms, and a number above those of all claims.
+use Rattle.std.specs.Prelude.{◌≡◌, ℕ, ◌≤◌, List, length, take, slice_get, Some}
+use Rattle.seq_values.specs.declared.value.Value.{Value}
+use Rattle.cell_book.specs.declared.cell.State.TheVariants.{Forcing}
+use Rattle.cell_book.specs.declared.cell.Cell.{Cell}
+use Rattle.cell_book.specs.Account.{Account, made_by, IsFresh, IsSound}
+use Rattle.cell_book.specs.Steps.{begun_form, values_in}
+
+-- of each open claim, how many parts it has made
+pub record CountsMakes (a : Account) (cell_makes form_makes : List ℕ) : Type 0 where
+  pub cells_long : length cell_makes ≡ length a.cells
+  pub forms_long : length form_makes ≡ length a.forms
+  pub of_cells : (i claim n : ℕ) (p : Cell) → slice_get a.cells i ≡ Some p → p.state ≡ Forcing claim → slice_get cell_makes i ≡ Some n → n ≡ length (made_by claim a)
+  pub of_forms : (k number claim n : ℕ) → slice_get a.forms k ≡ Some (begun_form number claim) → slice_get form_makes k ≡ Some n → n ≡ length (made_by claim a)
+
+pub record IsKept (a : Account) (cell_makes form_makes : List ℕ) (settled : List Value) (next : ℕ) : Type 0 where
+  pub sound : IsSound a
+  pub fresh : (claim : ℕ) → next ≤ claim → IsFresh a claim
+  pub makes : CountsMakes a cell_makes form_makes
+  pub settled_first : settled ≡ take (length settled) (values_in a.forms)

@@ -1,0 +1,18 @@
+-- A law: each value in the book is 7.
+use Rattle.std.specs.Prelude.{◌≡◌, ℕ, slice_get, Some, ℤ, pos}
+use Rattle.seq_values.specs.declared.value.Value.{Value}
+use Rattle.seq_values.specs.declared.value.Value.TheVariants.{Int}
+use Rattle.cell_book.specs.declared.cell.State.TheVariants.{Done}
+use Rattle.cell_book.specs.declared.cell.Cell.{Cell}
+use Rattle.seq_values.specs.declared.term.Term.{Term}
+use Rattle.seq_values.specs.declared.words.Kind.{Kind}
+use Rattle.cell_book.specs.declared.work.Place.{Place}
+use Rattle.cell_book.specs.declared.work.Place.TheVariants as P
+use Rattle.cell_book.specs.Account.{Account, numbered}
+
+abbrev pub IsSevens : Account → Type 0
+IsSevens a = (id : ℕ) (p : Cell) (v : Value) → numbered a.cells id ≡ Some p → p.state ≡ Done v → v ≡ Int (pos 7)
+
+-- a work is on the part with this number
+abbrev pub IsOn : ℕ → Place → Type 0
+IsOn id x = (kind : Kind) × (term : Term) × (x ≡ P.Part id kind term)

@@ -1,0 +1,175 @@
+//! A client of any cells, under a small law of its own: each value in the book is 7.
+#![tactic(auto)]
+
+ghost use Rattle.std.specs.Prelude.{◌≡◌, ◌≢◌, ℕ, true, Contains, IfOk, pos};
+ghost use Rattle.seq_values.specs.declared.value.Value.TheVariants.{Int};
+ghost use Rattle.cell_book.specs.declared.answers.Look.TheVariants.{Done};
+ghost use Rattle.cell_book.specs.Steps.{shown};
+ghost use Rattle.cell_book.specs.Account.{Duty};
+ghost use Rattle.cell_book.specs.Glimpses.{Owns, LawIs};
+ghost use Rattle.cell_client.specs.Sevens.{IsSevens, IsOn};
+
+#[cfg(test)]
+mod tests;
+
+use cell_book::{CellLaw, Cells, ClaimRefusal, Look, MakeRefusal, Work};
+use seq_base::Thrown;
+use seq_values::{CellId, Kind, Op, Term, Value};
+use seq_vector::{NoMemory, PVec};
+
+/// The law of a book whose values are all 7.
+#[derive(Drop)]
+pub struct Sevens;
+
+impl CellLaw for Sevens {
+    ghost use Rattle.cell_client.specs.Sevens.{IsSevens};
+
+    ghost keeps = { λ _. IsSevens };
+}
+
+/// Begins a form.
+pub fn begin<C: Cells>(cells: &mut C, form: u32) -> Result<Work, NoMemory>
+    requires ready { C.ready cells.old }
+    requires leads { C.leads cells.old ≡ true }
+    requires unbegun { ¬ Contains (C.seen cells.old).begun form }
+    requires law { LawIs (C.alone cells.old) (C.law cells.old) (C.noted cells.old) IsSevens }
+    ensures own { IfOk result (λ w. Owns (C.held cells.new) (C.seen cells.new) w) }
+    ensures law { LawIs (C.alone cells.new) (C.law cells.new) (C.noted cells.new) IsSevens }
+    ensures same { C.same cells.old cells.new }
+{
+    cells.begin_form(form)
+}
+
+/// Makes a part for the work.
+pub fn add<C: Cells>(cells: &mut C, by: &Work, kind: Kind) -> Result<CellId, MakeRefusal>
+    requires ready { C.ready cells.old }
+    requires own { Owns (C.held cells.old) (C.seen cells.old) by.now }
+    requires law { LawIs (C.alone cells.old) (C.law cells.old) (C.noted cells.old) IsSevens }
+    ensures own { Owns (C.held cells.new) (C.seen cells.new) by.now }
+    ensures law { LawIs (C.alone cells.new) (C.law cells.new) (C.noted cells.new) IsSevens }
+    ensures same { C.same cells.old cells.new }
+{
+    let term = Term {
+        op: Op::Repeat,
+        args: PVec::new(),
+    };
+    cells.make(by, term, kind)
+}
+
+/// Looks at a part.
+pub fn see<C: Cells>(cells: &mut C, by: &Work, id: CellId) -> Result<Look, NoMemory>
+    requires ready { C.ready cells.old }
+    requires own { Owns (C.held cells.old) (C.seen cells.old) by.now }
+    requires law { LawIs (C.alone cells.old) (C.law cells.old) (C.noted cells.old) IsSevens }
+    ensures own { Owns (C.held cells.new) (C.seen cells.new) by.now }
+    ensures shown { IfOk result (λ l. l ≡ shown ((C.seen cells.new).cells id)) }
+    ensures law { LawIs (C.alone cells.new) (C.law cells.new) (C.noted cells.new) IsSevens }
+    ensures same { C.same cells.old cells.new }
+{
+    cells.look(id)
+}
+
+/// Claims a part for the work.
+pub fn ask<C: Cells>(cells: &mut C, by: &Work, id: CellId) -> Result<Work, ClaimRefusal>
+    requires ready { C.ready cells.old }
+    requires own { Owns (C.held cells.old) (C.seen cells.old) by.now }
+    requires law { LawIs (C.alone cells.old) (C.law cells.old) (C.noted cells.old) IsSevens }
+    ensures own { Owns (C.held cells.new) (C.seen cells.new) by.now }
+    ensures others { (w : Duty) → Owns (C.held cells.old) (C.seen cells.old) w → Owns (C.held cells.new) (C.seen cells.new) w }
+    ensures asked { IfOk result (λ w. Owns (C.held cells.new) (C.seen cells.new) w) }
+    ensures apart { IfOk result (λ w. by.now.claim ≢ w.claim) }
+    ensures place { IfOk result (λ w. IsOn id w.place) }
+    ensures law { LawIs (C.alone cells.new) (C.law cells.new) (C.noted cells.new) IsSevens }
+    ensures same { C.same cells.old cells.new }
+{
+    cells.claim(id, Some(by))
+}
+
+/// Finishes a work with 7.
+pub fn finish<C: Cells>(cells: &mut C, by: &Work, work: Work)
+    requires ready { C.ready cells.old }
+    requires own { Owns (C.held cells.old) (C.seen cells.old) by.now }
+    requires asked { Owns (C.held cells.old) (C.seen cells.old) work }
+    requires apart { by.now.claim ≢ work.claim }
+    requires law { LawIs (C.alone cells.old) (C.law cells.old) (C.noted cells.old) IsSevens }
+    ensures own { Owns (C.held cells.new) (C.seen cells.new) by.now }
+    ensures done { (id : ℕ) → IsOn id work.place → shown ((C.seen cells.new).cells id) ≡ Done (Int (pos 7)) }
+    ensures law { LawIs (C.alone cells.new) (C.law cells.new) (C.noted cells.new) IsSevens }
+    ensures same { C.same cells.old cells.new }
+{
+    cells.finish(work, Value::Int(7));
+}
+
+/// Ends a work by an error.
+pub fn throw<C: Cells>(cells: &mut C, by: &Work, work: Work)
+    requires ready { C.ready cells.old }
+    requires own { Owns (C.held cells.old) (C.seen cells.old) by.now }
+    requires asked { Owns (C.held cells.old) (C.seen cells.old) work }
+    requires apart { by.now.claim ≢ work.claim }
+    requires law { LawIs (C.alone cells.old) (C.law cells.old) (C.noted cells.old) IsSevens }
+    ensures own { Owns (C.held cells.new) (C.seen cells.new) by.now }
+    ensures law { LawIs (C.alone cells.new) (C.law cells.new) (C.noted cells.new) IsSevens }
+    ensures same { C.same cells.old cells.new }
+{
+    cells.fail(work, Thrown::Divide);
+}
+
+/// Gives a work up.
+pub fn lose<C: Cells>(cells: &mut C, by: &Work, work: Work)
+    requires ready { C.ready cells.old }
+    requires own { Owns (C.held cells.old) (C.seen cells.old) by.now }
+    requires asked { Owns (C.held cells.old) (C.seen cells.old) work }
+    requires apart { by.now.claim ≢ work.claim }
+    requires law { LawIs (C.alone cells.old) (C.law cells.old) (C.noted cells.old) IsSevens }
+    ensures own { Owns (C.held cells.new) (C.seen cells.new) by.now }
+    ensures law { LawIs (C.alone cells.new) (C.law cells.new) (C.noted cells.new) IsSevens }
+    ensures same { C.same cells.old cells.new }
+{
+    cells.give_up(work);
+}
+
+/// Claims a part for the work and finishes it with 7, where nobody has yet.
+pub fn settle<C: Cells>(cells: &mut C, by: &Work, id: CellId) -> Result<(), ClaimRefusal>
+    requires ready { C.ready cells.old }
+    requires own { Owns (C.held cells.old) (C.seen cells.old) by.now }
+    requires law { LawIs (C.alone cells.old) (C.law cells.old) (C.noted cells.old) IsSevens }
+    ensures own { Owns (C.held cells.new) (C.seen cells.new) by.now }
+    ensures law { LawIs (C.alone cells.new) (C.law cells.new) (C.noted cells.new) IsSevens }
+    ensures done { IfOk result (λ _. shown ((C.seen cells.new).cells id) ≡ Done (Int (pos 7))) }
+    ensures same { C.same cells.old cells.new }
+{
+    let work = ask(cells, by, id)?;
+    finish(cells, by, work);
+    Ok(())
+}
+
+/// Makes and settles so many parts one by one. It tells whether all were.
+pub fn fill<C: Cells>(cells: &mut C, by: &Work, count: u32) -> bool
+    requires ready { C.ready cells.old }
+    requires own { Owns (C.held cells.old) (C.seen cells.old) by.now }
+    requires law { LawIs (C.alone cells.old) (C.law cells.old) (C.noted cells.old) IsSevens }
+    ensures own { Owns (C.held cells.new) (C.seen cells.new) by.now }
+    ensures law { LawIs (C.alone cells.new) (C.law cells.new) (C.noted cells.new) IsSevens }
+    ensures same { C.same cells.old cells.new }
+{
+    let mut all = true;
+    for _ in 0..count {
+        all = all && one_more(cells, by);
+    }
+    all
+}
+
+/// Makes and settles one part.
+fn one_more<C: Cells>(cells: &mut C, by: &Work) -> bool
+    requires ready { C.ready cells.old }
+    requires own { Owns (C.held cells.old) (C.seen cells.old) by.now }
+    requires law { LawIs (C.alone cells.old) (C.law cells.old) (C.noted cells.old) IsSevens }
+    ensures own { Owns (C.held cells.new) (C.seen cells.new) by.now }
+    ensures law { LawIs (C.alone cells.new) (C.law cells.new) (C.noted cells.new) IsSevens }
+    ensures same { C.same cells.old cells.new }
+{
+    match add(cells, by, Kind::Lazy) {
+        Err(_) => false,
+        Ok(id) => settle(cells, by, id).is_ok(),
+    }
+}
