@@ -48,3 +48,6 @@ pub fn law_cursor_is_found()
 pub fn law_depth_is_plain()
     ensures { DepthIsPlain }
 {}
+
+#[cfg(test)]
+mod tests;
