@@ -61,13 +61,13 @@ module _ {C : Type 0} where
     stages_of_all no_values = []
     stages_of_all (f & fs) = stages_of f ++ stages_of_all fs
 
+  abbrev pub is_some_stage : List (Value C) → Bool
+  is_some_stage [] = false
+  is_some_stage (stage ∷ stages) = true
+
   -- a transducer with at least one stage, which no program may call
   abbrev pub has_stages : Value C → Bool
   has_stages xf = is_transducer xf && is_some_stage (stages_of xf)
-    where
-      is_some_stage : List (Value C) → Bool
-      is_some_stage [] = false
-      is_some_stage (stage ∷ stages) = true
 
   -- goes on with the stages of a transducer: a value that is none throws, and so do more stages than a list may have
   abbrev pub with_stages : Value C → (List (Value C) → Plan C) → Plan C
