@@ -8,7 +8,7 @@ use Rattle.seq_values.specs.declared.words.FolderKind.TheVariants as F
 use Rattle.seq_values.specs.Model.{Value, vector, Values, no_values}
 use Rattle.seq_plan.specs.Plan.{Plan}
 use Rattle.seq_plan.specs.Alike.{Like, like_nil, like_bool, like_int, like_vector, like_function, like_reduced, LikeAll, like_none, like_more, LikeList, like_end, like_item, LikePlan, like_seq, like_call, like_go, like_give, like_throw, LikeRound, like_ends_with, like_fails, like_visits}
-use Rattle.seq_plan.specs.Stages.{Effect, passes, passes_last, passes_each, passes_nothing, is_done, Sink, reduces, gathers, Onward, is_transducer, are_transducers, stages_of, stages_of_all, with_stages, begins_with, fresh, take_one, group_one, on_input, stage_on, is_reduced, unwrapped, output, sink_values, answer_of, outputs_of, standing, entered, each_from, enter_each, with_state, with_last, by_effect, enter, each_round, enter_round, complete}
+use Rattle.seq_plan.specs.Stages.{Effect, passes, passes_last, passes_each, passes_nothing, is_done, Sink, reduces, gathers, Onward, is_transducer, are_transducers, stages_of, stages_of_all, is_some_stage, has_stages, with_stages, begins_with, fresh, take_one, group_one, on_input, stage_on, is_reduced, unwrapped, output, sink_values, answer_of, outputs_of, standing, entered, each_from, enter_each, with_state, with_last, by_effect, enter, each_round, enter_round, complete}
 use Rattle.seq_plan.proofs.AlikeNodes.{like-list, like-values, like-append, like-length, like-cond, like-if_nil, like-if_true, like-round_at, like-first_of, like-rest_of, like-with_value, like-with_members}
 
 pub data LikeEffect {C D : Type 0} (R : C → D → Type 0) : Effect C → Effect D → Type 0 where
@@ -33,7 +33,7 @@ module _ {C D : Type 0} {R : C → D → Type 0} where
   -- ## The stages of a transducer
 
   mutual
-    like-is_transducer : {v : Value C} {w : Value D} → Like R v w → is_transducer v ≡ is_transducer w
+    pub like-is_transducer : {v : Value C} {w : Value D} → Like R v w → is_transducer v ≡ is_transducer w
     like-is_transducer (like_function {t = T.Comp} h) = like-are_transducers h
     like-is_transducer (like_function {t = T.Builtin B.Cat} h) = refl
     like-is_transducer (like_function {t = T.Builtin B.Identity} h) = refl
@@ -53,6 +53,13 @@ module _ {C D : Type 0} {R : C → D → Type 0} where
     like-stages_of_all : {xs : Values C} {ys : Values D} → LikeAll R xs ys → LikeList R (stages_of_all xs) (stages_of_all ys)
     like-stages_of_all like_none = like_end
     like-stages_of_all (like_more p q) = like-append (like-stages_of p) (like-stages_of_all q)
+
+  like-some_stage : {xs : List (Value C)} {ys : List (Value D)} → LikeList R xs ys → is_some_stage xs ≡ is_some_stage ys
+  like-some_stage like_end = refl
+  like-some_stage (like_item p q) = refl
+
+  pub like-has_stages : {v : Value C} {w : Value D} → Like R v w → has_stages v ≡ has_stages w
+  like-has_stages p = rw (like-is_transducer p, like-some_stage (like-stages_of p))
 
   pub like-with_stages : {v : Value C} {w : Value D} → Like R v w → {k : List (Value C) → Plan C} {h : List (Value D) → Plan D} → ((xs : List (Value C)) (ys : List (Value D)) → LikeList R xs ys → LikePlan R (k xs) (h ys)) → LikePlan R (with_stages v k) (with_stages w h)
   like-with_stages {v = v} {w = w} p f =

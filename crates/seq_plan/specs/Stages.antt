@@ -61,13 +61,13 @@ module _ {C : Type 0} where
     stages_of_all no_values = []
     stages_of_all (f & fs) = stages_of f ++ stages_of_all fs
 
+  abbrev pub is_some_stage : List (Value C) → Bool
+  is_some_stage [] = false
+  is_some_stage (stage ∷ stages) = true
+
   -- a transducer with at least one stage, which no program may call
   abbrev pub has_stages : Value C → Bool
   has_stages xf = is_transducer xf && is_some_stage (stages_of xf)
-    where
-      is_some_stage : List (Value C) → Bool
-      is_some_stage [] = false
-      is_some_stage (stage ∷ stages) = true
 
   -- goes on with the stages of a transducer: a value that is none throws, and so do more stages than a list may have
   abbrev pub with_stages : Value C → (List (Value C) → Plan C) → Plan C
@@ -91,7 +91,7 @@ module _ {C : Type 0} where
   abbrev pub take_one : ℤ → Value C → (Value C → Effect C → Plan C) → Plan C
   take_one left x k = cond (int_le left (pos 0)) (k (int left) (passes_last x)) (k (int left) (passes x))
 
-  -- `partition-all`: the group with the input, which is passed on where it is full
+  -- `partition-all`: the group with the input in it, whose length is looked at before its depth, is passed on where it is full
   abbrev pub group_one : ℤ → List (Value C) → (Value C → Effect C → Plan C) → Plan C
   group_one n group k = with_members group (λ xs. with_value (vector (values xs)) (λ v.
       cond (int_le n (pos (length xs))) (k (vector no_values) (passes v)) (k v passes_nothing)))
@@ -134,6 +134,7 @@ module _ {C : Type 0} where
   output (reduces f answer) x k = call f (answer ∷ x ∷ []) (λ y. k (reduces f (unwrapped y)) (is_reduced y))
   output (gathers xs) x k = k (gathers (xs ++ x ∷ [])) false
 
+  -- a sink among the variables of a loop
   abbrev pub sink_values : Sink C → List (Value C)
   sink_values (reduces f answer) = f ∷ answer ∷ []
   sink_values (gathers xs) = vector (values xs) ∷ []
@@ -143,6 +144,7 @@ module _ {C : Type 0} where
   answer_of (reduces f answer) = answer
   answer_of (gathers xs) = vector (values xs)
 
+  -- the outputs gathered
   abbrev pub outputs_of : Sink C → List (Value C)
   outputs_of (reduces f answer) = answer ∷ []
   outputs_of (gathers xs) = xs
@@ -151,6 +153,7 @@ module _ {C : Type 0} where
   abbrev pub standing : List (Value C) → Sink C → Bool → Value C
   standing states sink done = vector (bool done & vector (values states) & values (sink_values sink))
 
+  -- goes on with what the loop gives
   abbrev pub entered : Onward C → Value C → Plan C
   entered k (vector (bool done & vector states & f & answer & no_values)) = k (list states) (reduces f answer) done
   entered k (vector (bool done & vector states & vector xs & no_values)) = k (list states) (gathers (list xs)) done
