@@ -35,3 +35,11 @@ returns-clause-own g c =
     let st = c.give_up.ensures.step in
     let w = c.args.by.now in
     still_owns (C.alone s) (C.leads s) (C.law s) (C.noted s) (C.seen s) (C.seen t) (C.held s) (C.held t) st.0 st.1 w c.requires.own st.2 (gives_up_holds st.0 st.1 c.args.work w.claim st.3 c.requires.apart) st.4.0 (ended_held (C.held s) (C.held t) c.args.work w.claim (c.give_up.ensures.held w.claim) c.requires.apart c.requires.own.0)
+
+pub returns-clause-others : goal.returns-clause-others
+returns-clause-others g c = λ w d o. (
+    let C = g.C.Cells in
+    let s = c.args.cells.now in
+    let t = c.give_up.new.self in
+    let st = c.give_up.ensures.step in
+    still_owns (C.alone s) (C.leads s) (C.law s) (C.noted s) (C.seen s) (C.seen t) (C.held s) (C.held t) st.0 st.1 w o st.2 (gives_up_holds st.0 st.1 c.args.work w.claim st.3 d) st.4.0 (ended_held (C.held s) (C.held t) c.args.work w.claim (c.give_up.ensures.held w.claim) d o.0))
