@@ -1,7 +1,7 @@
 -- Each step on a book keeps the law of sevens.
-use Rattle.std.proofs.Common.{◌≡◌, ◌≢◌, ℕ, zero, suc, ◌++◌, ◌∷◌, [], List, length, Result, Ok, Err, Some, None, Option, refl, sym, ap, subst, ◌∙◌, ◌⊎◌, inl, inr, pos}
-use Rattle.std.specs.Prelude.{slice_get, slice_set, IfOk}
-use Rattle.std.proofs.lemmas.Option.{none-some, same_Some}
+use Rattle.std.proofs.Common.{◌≡◌, ◌≢◌, ℕ, zero, suc, ◌++◌, ◌∷◌, [], List, length, Result, Ok, Err, Some, None, Option, sym, ap, subst, ◌∙◌, ◌⊎◌, inl, inr, pos}
+use Rattle.std.specs.Prelude.{slice_get, IfOk}
+use Rattle.std.proofs.lemmas.Option.{none-some}
 use Rattle.seq_values.specs.declared.value.Value.{Value}
 use Rattle.seq_values.specs.declared.value.Value.TheVariants.{Int}
 use Rattle.seq_values.specs.declared.term.Term.{Term}
@@ -9,13 +9,12 @@ use Rattle.seq_values.specs.declared.words.Kind.{Kind}
 use Rattle.seq_values.specs.declared.words.Kind.TheVariants.{Lazy, Future}
 use Rattle.seq_base.specs.declared.thrown.Thrown.{Thrown}
 use Rattle.cell_book.specs.declared.answers.MakeRefusal.TheVariants as M
-use Rattle.cell_book.specs.declared.cell.State.{State}
 use Rattle.cell_book.specs.declared.cell.State.TheVariants as S
 use Rattle.cell_book.specs.declared.cell.ClaimEnd.TheVariants as E
 use Rattle.cell_book.specs.declared.cell.Cell.{Cell}
 use Rattle.cell_book.specs.declared.work.Place.{Place}
 use Rattle.cell_book.specs.declared.work.Place.TheVariants as P
-use Rattle.cell_book.specs.Account.{Account, Duty, cell_at, numbered}
+use Rattle.cell_book.specs.Account.{Account, Duty, cell_at}
 use Rattle.cell_book.specs.Steps.{with_cell, claimed, after_claim, new_cell, shown, LookAnswer, Looks, failed_state, BeginAnswer, Begins, Makes, MakeAnswer, Claims, ClaimAnswer, Ends, Finishes, Fails, GivesUp}
 use Rattle.cell_book.specs.Glimpses.{Glimpse, SeesCell, Owns}
 use Rattle.cell_book.proofs.Laws.{new_claim}

@@ -149,6 +149,7 @@ pub fn refusal<C: Cells>(cells: &mut C, by: &Work, id: CellId) -> Option<ClaimRe
     requires ready { C.ready cells.old }
     requires own { Owns (C.held cells.old) (C.seen cells.old) by.now }
     requires law { LawIs (C.alone cells.old) (C.law cells.old) (C.noted cells.old) IsSevens }
+    ensures own { Owns (C.held cells.new) (C.seen cells.new) by.now }
     ensures others { (w : Duty) → Owns (C.held cells.old) (C.seen cells.old) w → Owns (C.held cells.new) (C.seen cells.new) w }
     ensures law { LawIs (C.alone cells.new) (C.law cells.new) (C.noted cells.new) IsSevens }
     ensures same { C.same cells.old cells.new }
