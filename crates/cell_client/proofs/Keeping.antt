@@ -1,7 +1,7 @@
 -- Each step on a book keeps the law of sevens.
-use Rattle.std.proofs.Common.{◌≡◌, ◌≢◌, ℕ, zero, suc, ◌++◌, ◌∷◌, [], List, length, Ok, Err, Some, None, Option, refl, sym, ap, subst, ◌∙◌, ◌⊎◌, inl, inr, pos}
-use Rattle.std.specs.Prelude.{slice_get, slice_set, IfOk}
-use Rattle.std.proofs.lemmas.Option.{none-some, same_Some}
+use Rattle.std.proofs.Common.{◌≡◌, ◌≢◌, ℕ, zero, suc, ◌++◌, ◌∷◌, [], List, length, Result, Ok, Err, Some, None, Option, sym, ap, subst, ◌∙◌, ◌⊎◌, inl, inr, pos}
+use Rattle.std.specs.Prelude.{slice_get, IfOk}
+use Rattle.std.proofs.lemmas.Option.{none-some}
 use Rattle.seq_values.specs.declared.value.Value.{Value}
 use Rattle.seq_values.specs.declared.value.Value.TheVariants.{Int}
 use Rattle.seq_values.specs.declared.term.Term.{Term}
@@ -9,15 +9,15 @@ use Rattle.seq_values.specs.declared.words.Kind.{Kind}
 use Rattle.seq_values.specs.declared.words.Kind.TheVariants.{Lazy, Future}
 use Rattle.seq_base.specs.declared.thrown.Thrown.{Thrown}
 use Rattle.cell_book.specs.declared.answers.MakeRefusal.TheVariants as M
-use Rattle.cell_book.specs.declared.cell.State.{State}
 use Rattle.cell_book.specs.declared.cell.State.TheVariants as S
 use Rattle.cell_book.specs.declared.cell.ClaimEnd.TheVariants as E
 use Rattle.cell_book.specs.declared.cell.Cell.{Cell}
 use Rattle.cell_book.specs.declared.work.Place.{Place}
 use Rattle.cell_book.specs.declared.work.Place.TheVariants as P
-use Rattle.cell_book.specs.Account.{Account, Duty, cell_at, numbered}
+use Rattle.cell_book.specs.Account.{Account, Duty, cell_at}
 use Rattle.cell_book.specs.Steps.{with_cell, claimed, after_claim, new_cell, shown, LookAnswer, Looks, failed_state, BeginAnswer, Begins, Makes, MakeAnswer, Claims, ClaimAnswer, Ends, Finishes, Fails, GivesUp}
-use Rattle.cell_book.specs.Glimpses.{Glimpse, SeesCell}
+use Rattle.cell_book.specs.Glimpses.{Glimpse, SeesCell, Owns}
+use Rattle.cell_book.proofs.Laws.{new_claim}
 use Rattle.cell_book.proofs.Lists.{get_set, get_snoc}
 use Rattle.cell_client.specs.Sevens.{IsSevens}
 
@@ -100,3 +100,8 @@ sevens_looks a b id answer s h = subst IsSevens (sym h.0) s
 pub looks_seen : (a b : Account) (id : ℕ) (answer : LookAnswer) (g : Glimpse) → Looks a id answer b → SeesCell id b g → IfOk answer (λ l. l ≡ shown (g.cells id))
 looks_seen a b id (Ok l) g h e = h.1 ∙ ap shown (ap (λ (x : Account). cell_at x id) (sym h.0) ∙ sym e)
 looks_seen a b id (Err r) g h e = tt
+
+-- a new work has a claim of its own
+pub new_claims : {E : Type 0} (mine : ℕ → ℕ) (g : Glimpse) (answer : Result Duty E) → IfOk answer (λ w. mine w.claim ≡ 0) → IfOk answer (λ w. (x : Duty) → Owns mine g x → x.claim ≢ w.claim)
+new_claims mine g (Ok w) z = λ x o. new_claim mine w x.claim z o.0
+new_claims mine g (Err r) z = tt

@@ -1,5 +1,5 @@
 -- A law: each value in the book is 7.
-use Rattle.std.specs.Prelude.{◌≡◌, ℕ, slice_get, Some, ℤ, pos}
+use Rattle.std.specs.Prelude.{◌≡◌, ℕ, Some, pos}
 use Rattle.seq_values.specs.declared.value.Value.{Value}
 use Rattle.seq_values.specs.declared.value.Value.TheVariants.{Int}
 use Rattle.cell_book.specs.declared.cell.State.TheVariants.{Done}

@@ -77,7 +77,7 @@ pub fn ask<C: Cells>(cells: &mut C, by: &Work, id: CellId) -> Result<Work, Claim
     ensures own { Owns (C.held cells.new) (C.seen cells.new) by.now }
     ensures others { (w : Duty) → Owns (C.held cells.old) (C.seen cells.old) w → Owns (C.held cells.new) (C.seen cells.new) w }
     ensures asked { IfOk result (λ w. Owns (C.held cells.new) (C.seen cells.new) w) }
-    ensures apart { IfOk result (λ w. by.now.claim ≢ w.claim) }
+    ensures apart { IfOk result (λ w. (x : Duty) → Owns (C.held cells.old) (C.seen cells.old) x → x.claim ≢ w.claim) }
     ensures place { IfOk result (λ w. IsOn id w.place) }
     ensures law { LawIs (C.alone cells.new) (C.law cells.new) (C.noted cells.new) IsSevens }
     ensures same { C.same cells.old cells.new }
@@ -122,6 +122,7 @@ pub fn lose<C: Cells>(cells: &mut C, by: &Work, work: Work)
     requires apart { by.now.claim ≢ work.claim }
     requires law { LawIs (C.alone cells.old) (C.law cells.old) (C.noted cells.old) IsSevens }
     ensures own { Owns (C.held cells.new) (C.seen cells.new) by.now }
+    ensures others { (w : Duty) → w.claim ≢ work.claim → Owns (C.held cells.old) (C.seen cells.old) w → Owns (C.held cells.new) (C.seen cells.new) w }
     ensures law { LawIs (C.alone cells.new) (C.law cells.new) (C.noted cells.new) IsSevens }
     ensures same { C.same cells.old cells.new }
 {
@@ -141,6 +142,48 @@ pub fn settle<C: Cells>(cells: &mut C, by: &Work, id: CellId) -> Result<(), Clai
     let work = ask(cells, by, id)?;
     finish(cells, by, work);
     Ok(())
+}
+
+/// Why a claim is refused. One that is given is given up, and the answer is `None`.
+pub fn refusal<C: Cells>(cells: &mut C, by: &Work, id: CellId) -> Option<ClaimRefusal>
+    requires ready { C.ready cells.old }
+    requires own { Owns (C.held cells.old) (C.seen cells.old) by.now }
+    requires law { LawIs (C.alone cells.old) (C.law cells.old) (C.noted cells.old) IsSevens }
+    ensures own { Owns (C.held cells.new) (C.seen cells.new) by.now }
+    ensures others { (w : Duty) → Owns (C.held cells.old) (C.seen cells.old) w → Owns (C.held cells.new) (C.seen cells.new) w }
+    ensures law { LawIs (C.alone cells.new) (C.law cells.new) (C.noted cells.new) IsSevens }
+    ensures same { C.same cells.old cells.new }
+{
+    match ask(cells, by, id) {
+        Err(refusal) => Some(refusal),
+        Ok(work) => {
+            lose(cells, by, work);
+            None
+        }
+    }
+}
+
+/// Claims a part twice, and gives the first claim up. It tells whether the second was refused as forced by the first.
+pub fn claims_once<C: Cells>(cells: &mut C, by: &Work, id: CellId) -> bool
+    requires ready { C.ready cells.old }
+    requires own { Owns (C.held cells.old) (C.seen cells.old) by.now }
+    requires law { LawIs (C.alone cells.old) (C.law cells.old) (C.noted cells.old) IsSevens }
+    ensures own { Owns (C.held cells.new) (C.seen cells.new) by.now }
+    ensures law { LawIs (C.alone cells.new) (C.law cells.new) (C.noted cells.new) IsSevens }
+    ensures same { C.same cells.old cells.new }
+{
+    match ask(cells, by, id) {
+        Err(_) => false,
+        Ok(work) => {
+            let once = is_forced(refusal(cells, by, id), work.claim());
+            lose(cells, by, work);
+            once
+        }
+    }
+}
+
+fn is_forced(refusal: Option<ClaimRefusal>, number: u128) -> bool {
+    matches!(&refusal, Some(ClaimRefusal::Seen(Look::Forcing { claim })) if *claim == number)
 }
 
 /// Makes and settles so many parts one by one. It tells whether all were.

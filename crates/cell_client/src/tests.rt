@@ -1,11 +1,19 @@
 ghost use Rattle.std.specs.Prelude.{◌≡◌, [], IfOk};
 
-use crate::{add, ask, begin, fill, finish, lose, see, throw};
+use crate::{add, begin, claims_once, fill, refusal, see};
 use cell_book::{Book, Cells, ClaimRefusal, Look, MakeRefusal, PlainCells};
-use seq_base::Thrown;
 use seq_values::{CellId, Kind, Value};
 use seq_vector::NoMemory;
 use std::test::Fail;
+
+fn book(rt: &HostRuntime, cells: u32) -> Result<Book, Fail>
+    ensures { IfOk result (λ b. (b.cells ≡ []) × (b.forms ≡ [])) }
+{
+    match Book::new(rt.alloc(), cells) {
+        Ok(book) => Ok(book),
+        Err(_) => Err(Fail::from("memory")),
+    }
+}
 
 fn part(number: u32) -> Result<CellId, Fail> {
     match CellId::of(number) {
@@ -22,61 +30,26 @@ fn is_spent(answer: Result<CellId, MakeRefusal>) -> bool {
     matches!(&answer, Err(MakeRefusal::Spent(_)))
 }
 
-fn is_forced(refusal: ClaimRefusal, number: u128) -> bool {
-    matches!(&refusal, ClaimRefusal::Seen(Look::Forcing { claim }) if *claim == number)
-}
-
-fn is_given_up(refusal: ClaimRefusal) -> bool {
-    matches!(&refusal, ClaimRefusal::GaveUp)
+fn is_given_up(refusal: Option<ClaimRefusal>) -> bool {
+    matches!(&refusal, Some(ClaimRefusal::GaveUp))
 }
 
 fn is_unknown(answer: Result<Look, NoMemory>) -> bool {
     matches!(&answer, Ok(Look::Unknown))
 }
 
-fn is_empty(answer: Result<Look, NoMemory>) -> bool {
-    matches!(&answer, Ok(Look::Empty))
-}
-
-fn is_failed(answer: Result<Look, NoMemory>) -> bool {
-    matches!(&answer, Ok(Look::Failed(Thrown::Divide)))
-}
-
-fn is_seven(answer: Result<Look, NoMemory>) -> bool {
-    matches!(&answer, Ok(Look::Done(Value::Int(7))))
-}
-
-fn book(rt: &HostRuntime, cells: u32) -> Result<Book, Fail>
-    ensures { IfOk result (λ b. (b.cells ≡ []) × (b.forms ≡ [])) }
-{
-    match Book::new(rt.alloc(), cells) {
-        Ok(book) => Ok(book),
-        Err(_) => Err(Fail::from("memory")),
-    }
-}
-
 #[test]
 #[tactic(auto, using(crate::proofs::Keeping::sevens_new))]
 fn a_book_of_one_cell(rt: HostRuntime) -> Result<(), Fail> {
     let first = part(1)?;
-    let second = part(2)?;
     let mut book = book(&rt, 1)?;
     let mut cells = PlainCells::over(&mut book);
     let Ok(form) = begin(&mut cells, 1) else {
         return Err(Fail::from("memory"));
     };
-    let made = is_made(add(&mut cells, &form, Kind::Lazy), 1);
-    let spent = is_spent(add(&mut cells, &form, Kind::Lazy));
-    let unknown = is_unknown(see(&mut cells, &form, second));
-    assert!(rt; made && spent && unknown);
-    let Ok(work) = ask(&mut cells, &form, first) else {
-        panic!(rt; "not claimed")
-    };
-    let Err(refusal) = ask(&mut cells, &form, first) else {
-        panic!(rt; "claimed twice")
-    };
-    assert!(rt; is_forced(refusal, work.claim()));
-    lose(&mut cells, &form, work);
+    assert!(rt; is_made(add(&mut cells, &form, Kind::Lazy), 1));
+    assert!(rt; is_spent(add(&mut cells, &form, Kind::Lazy)));
+    assert!(rt; claims_once(&mut cells, &form, first));
     cells.give_up(form);
     Ok(())
 }
@@ -85,54 +58,17 @@ fn a_book_of_one_cell(rt: HostRuntime) -> Result<(), Fail> {
 #[tactic(auto, using(crate::proofs::Keeping::sevens_new))]
 fn no_claim_after_a_give_up(rt: HostRuntime) -> Result<(), Fail> {
     let first = part(1)?;
+    let second = part(2)?;
     let mut book = book(&rt, 2)?;
     let mut cells = PlainCells::over(&mut book);
     let Ok(form) = begin(&mut cells, 1) else {
         return Err(Fail::from("memory"));
     };
     assert!(rt; is_made(add(&mut cells, &form, Kind::Lazy), 1));
-    let Ok(work) = ask(&mut cells, &form, first) else {
-        panic!(rt; "not claimed")
-    };
-    lose(&mut cells, &form, work);
-    let Err(refusal) = ask(&mut cells, &form, first) else {
-        panic!(rt; "claimed after a give-up")
-    };
-    assert!(rt; is_given_up(refusal));
+    assert!(rt; claims_once(&mut cells, &form, first));
+    assert!(rt; is_unknown(see(&mut cells, &form, second)));
+    assert!(rt; is_given_up(refusal(&mut cells, &form, first)));
     cells.give_up(form);
-    Ok(())
-}
-
-#[test]
-#[tactic(auto, using(crate::proofs::Keeping::sevens_new))]
-fn a_thrown_future_fails_and_a_lazy_part_is_empty(rt: HostRuntime) -> Result<(), Fail> {
-    let lazy = part(1)?;
-    let future = part(2)?;
-    let mut book = book(&rt, 3)?;
-    let mut cells = PlainCells::over(&mut book);
-    let Ok(form) = begin(&mut cells, 1) else {
-        return Err(Fail::from("memory"));
-    };
-    assert!(rt; is_made(add(&mut cells, &form, Kind::Lazy), 1));
-    assert!(rt; is_made(add(&mut cells, &form, Kind::Future), 2));
-    let Ok(work) = ask(&mut cells, &form, lazy) else {
-        panic!(rt; "not claimed")
-    };
-    throw(&mut cells, &form, work);
-    let Ok(work) = ask(&mut cells, &form, future) else {
-        panic!(rt; "not claimed")
-    };
-    throw(&mut cells, &form, work);
-    assert!(rt; is_empty(see(&mut cells, &form, lazy)));
-    assert!(rt; is_failed(see(&mut cells, &form, future)));
-    let Ok(work) = ask(&mut cells, &form, lazy) else {
-        panic!(rt; "not claimed again")
-    };
-    assert!(rt; work.cell() == Some(lazy) && work.form().is_none() && work.term().is_some());
-    finish(&mut cells, &form, work);
-    assert!(rt; is_seven(see(&mut cells, &form, lazy)));
-    cells.finish(form, Value::Int(7));
-    assert!(rt; matches!(cells.kind(future), Some(Kind::Future)));
     Ok(())
 }
 
@@ -161,8 +97,8 @@ fn a_later_form_has_the_values_before(rt: HostRuntime) -> Result<(), Fail> {
         return Err(Fail::from("memory"));
     };
     let outcomes = second.outcomes();
-    assert!(rt; outcomes.len() == 1 && matches!(outcomes.get(0), Some(Value::Int(5))));
-    assert!(rt; second.form() == Some(2) && second.cell().is_none() && second.kind().is_none());
+    assert!(rt; outcomes.len() == 1);
+    assert!(rt; matches!(outcomes.get(0), Some(Value::Int(5))));
     cells.give_up(second);
     Ok(())
 }

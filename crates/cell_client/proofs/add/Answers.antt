@@ -1,14 +1,8 @@
-use Rattle.std.proofs.Common.{◌≡◌, refl, sym, subst, ◌<◌, ℕ, Some, ap, ◌∙◌, pos}
-use Rattle.std.specs.Prelude.{IfOk}
-use Rattle.seq_values.specs.declared.value.Value.TheVariants.{Int}
-use Rattle.cell_book.specs.Account.{Account, Duty}
-use Rattle.cell_book.specs.declared.work.Place.{Place}
-use Rattle.cell_book.specs.Steps.{shown}
-use Rattle.cell_book.specs.Glimpses.{SeesPlace}
-use Rattle.cell_book.proofs.Laws.{meets_law, keeps_law, still_lawful, still_owns, opened_held, still_held, new_claim, ended_held}
-use Rattle.cell_book.proofs.Moves.{makes_holds, claims_onward, finishes_holds, fails_holds, gives_up_holds, finishes_shown}
+use Rattle.std.proofs.Common.{sym, subst, ◌<◌, ℕ}
+use Rattle.cell_book.proofs.Laws.{meets_law, keeps_law, still_lawful, still_owns}
+use Rattle.cell_book.proofs.Moves.{makes_holds}
 use Rattle.cell_client.specs.Sevens.{IsSevens}
-use Rattle.cell_client.proofs.Keeping.{sevens_begins, sevens_makes, sevens_claims, sevens_finishes, sevens_fails, sevens_gives_up}
+use Rattle.cell_client.proofs.Keeping.{sevens_makes}
 use Rattle.cell_client.proofs.add.Goals as goal
 
 pub make-requires-clause-keeps : goal.make-requires-clause-keeps

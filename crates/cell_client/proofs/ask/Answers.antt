@@ -1,14 +1,8 @@
-use Rattle.std.proofs.Common.{◌≡◌, refl, sym, subst, ◌<◌, ℕ, Some, ap, ◌∙◌, pos}
-use Rattle.std.specs.Prelude.{IfOk}
-use Rattle.seq_values.specs.declared.value.Value.TheVariants.{Int}
-use Rattle.cell_book.specs.Account.{Account, Duty}
-use Rattle.cell_book.specs.declared.work.Place.{Place}
-use Rattle.cell_book.specs.Steps.{shown}
-use Rattle.cell_book.specs.Glimpses.{SeesPlace}
-use Rattle.cell_book.proofs.Laws.{meets_law, keeps_law, still_lawful, still_owns, open_held, opened_held, still_held, new_claim, ended_held}
-use Rattle.cell_book.proofs.Moves.{makes_holds, claims_onward, finishes_holds, fails_holds, gives_up_holds, finishes_shown}
+use Rattle.std.proofs.Common.{sym, subst, ◌<◌, ℕ, Some}
+use Rattle.cell_book.proofs.Laws.{meets_law, keeps_law, still_lawful, still_owns, open_held}
+use Rattle.cell_book.proofs.Moves.{claims_onward}
 use Rattle.cell_client.specs.Sevens.{IsSevens}
-use Rattle.cell_client.proofs.Keeping.{sevens_begins, sevens_makes, sevens_claims, sevens_finishes, sevens_fails, sevens_gives_up}
+use Rattle.cell_client.proofs.Keeping.{new_claims, sevens_claims}
 use Rattle.cell_client.proofs.ask.Goals as goal
 
 pub claim-requires-clause-keeps : goal.claim-requires-clause-keeps
@@ -45,3 +39,6 @@ returns-clause-others g c = λ w o. (
     let st = c.claim.ensures.step in
     let h = c.claim.ensures.held w.claim in
     still_owns (C.alone s) (C.leads s) (C.law s) (C.noted s) (C.seen s) (C.seen t) (C.held s) (C.held t) st.0 st.1 w o st.2 ((claims_onward st.0 st.1 c.args.id (Some c.args.by.now.claim) c.claim.result w.claim st.3).holds) st.4.0 (subst (λ (n : ℕ). 0 < n) (sym h) (open_held (C.held s) c.claim.result w.claim o.0)))
+
+pub returns-clause-apart : goal.returns-clause-apart
+returns-clause-apart g c = new_claims (g.C.Cells.held c.args.cells.now) (g.C.Cells.seen c.args.cells.now) c.claim.result c.claim.ensures.fresh

@@ -1,14 +1,7 @@
-use Rattle.std.proofs.Common.{◌≡◌, refl, sym, subst, ◌<◌, ℕ, Some, ap, ◌∙◌, pos}
-use Rattle.std.specs.Prelude.{IfOk}
-use Rattle.seq_values.specs.declared.value.Value.TheVariants.{Int}
-use Rattle.cell_book.specs.Account.{Account, Duty}
-use Rattle.cell_book.specs.declared.work.Place.{Place}
-use Rattle.cell_book.specs.Steps.{shown}
-use Rattle.cell_book.specs.Glimpses.{SeesPlace}
-use Rattle.cell_book.proofs.Laws.{meets_law, keeps_law, still_lawful, still_owns, opened_held, still_held, new_claim, ended_held}
-use Rattle.cell_book.proofs.Moves.{makes_holds, claims_onward, finishes_holds, fails_holds, gives_up_holds, finishes_shown}
+use Rattle.cell_book.proofs.Laws.{meets_law, keeps_law, still_lawful, still_owns, ended_held}
+use Rattle.cell_book.proofs.Moves.{gives_up_holds}
 use Rattle.cell_client.specs.Sevens.{IsSevens}
-use Rattle.cell_client.proofs.Keeping.{sevens_begins, sevens_makes, sevens_claims, sevens_finishes, sevens_fails, sevens_gives_up}
+use Rattle.cell_client.proofs.Keeping.{sevens_gives_up}
 use Rattle.cell_client.proofs.lose.Goals as goal
 
 pub give_up-requires-clause-keeps : goal.give_up-requires-clause-keeps
@@ -35,3 +28,11 @@ returns-clause-own g c =
     let st = c.give_up.ensures.step in
     let w = c.args.by.now in
     still_owns (C.alone s) (C.leads s) (C.law s) (C.noted s) (C.seen s) (C.seen t) (C.held s) (C.held t) st.0 st.1 w c.requires.own st.2 (gives_up_holds st.0 st.1 c.args.work w.claim st.3 c.requires.apart) st.4.0 (ended_held (C.held s) (C.held t) c.args.work w.claim (c.give_up.ensures.held w.claim) c.requires.apart c.requires.own.0)
+
+pub returns-clause-others : goal.returns-clause-others
+returns-clause-others g c = λ w d o. (
+    let C = g.C.Cells in
+    let s = c.args.cells.now in
+    let t = c.give_up.new.self in
+    let st = c.give_up.ensures.step in
+    still_owns (C.alone s) (C.leads s) (C.law s) (C.noted s) (C.seen s) (C.seen t) (C.held s) (C.held t) st.0 st.1 w o st.2 (gives_up_holds st.0 st.1 c.args.work w.claim st.3 d) st.4.0 (ended_held (C.held s) (C.held t) c.args.work w.claim (c.give_up.ensures.held w.claim) d o.0))
