@@ -1,4 +1,5 @@
 pub mod Account
+pub mod Counts
 pub mod Steps
 pub mod Kept
 pub mod Works

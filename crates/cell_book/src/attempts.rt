@@ -1,4 +1,5 @@
-ghost use Rattle.std.specs.Prelude.{◌≡◌, [], ◌∷◌, ◌++◌, List, OnOk, OnErr, option_copied, slice_get};
+ghost use Rattle.std.specs.Prelude.{◌≡◌, ◌<◌, ◌^◌, [], ◌∷◌, ◌++◌, List, OnOk, OnErr, count_by};
+ghost use Rattle.cell_book.specs.Counts.{is_error};
 ghost use Rattle.cell_book.specs.declared.cell.Attempt.{Attempt as Record};
 
 use crate::cell::{Attempt, ClaimEnd};
@@ -56,5 +57,13 @@ impl Attempts {
         if count > 0 {
             self.items[count - 1].end = end;
         }
+    }
+
+    /// How many of them ended by an error.
+    pub fn errors(&self) -> usize
+        ensures same { result ≡ count_by (λ (x : Record). is_error x.end) self.now }
+        ensures bound { result < 2 ^ 64 }
+    {
+        self.items.iter().filter(|x| x.end.is_error()).count()
     }
 }

@@ -2,15 +2,17 @@ ghost use Rattle.std.specs.Prelude.{◌≡◌, ◌+◌, ◌≤◌, ◌<◌, ◌�
 ghost use Rattle.seq_values.specs.declared.value.Value.TheVariants.{Nil};
 ghost use Rattle.cell_book.specs.declared.cell.Cell.{Cell as Part};
 ghost use Rattle.cell_book.specs.declared.cell.Attempt.{Attempt as Record};
+ghost use Rattle.cell_book.specs.Counts.{totals_of};
 ghost use Rattle.cell_book.specs.Account.{Account, cell_at, is_open, forces, made_by, IsFresh};
 ghost use Rattle.cell_book.specs.Steps.{values_in, shown, term_at, kind_at, asker_of, begun_form, with_cell, after_claim, is_barred, cell_counts, form_counts, claimed, failed_state, fresh_cell, HasCount, Begins, Makes, Opens, Claims, EndsForm, Finishes, Fails, GivesUp, HasOpen, IsOpenIn, IsOpenAsker};
 ghost use Rattle.cell_book.specs.declared.cell.ClaimEnd.TheVariants as End;
 ghost use Rattle.cell_book.specs.declared.answers.Look.TheVariants as Look;
 ghost use Rattle.cell_book.specs.declared.answers.MakeRefusal.TheVariants as Refusal;
 
-use crate::answers::{ClaimRefusal, Look, MakeRefusal};
+use crate::answers::{ClaimRefusal, Look, MakeRefusal, Totals};
 use crate::attempts::Attempts;
 use crate::cell::{Cell, ClaimEnd, Form, State};
+use crate::totals::counted;
 use crate::work::{Place, Work};
 use seq_base::Thrown;
 use seq_values::{CellId, Kind, Term, Value};
@@ -223,6 +225,13 @@ impl Book {
             settled: PVec::new(),
             next: 0,
         })
+    }
+
+    /// What is counted of its parts. It takes no memory, and looks at each part.
+    pub fn totals(&self) -> Totals
+        ensures { result ≡ totals_of self.now.cells }
+    {
+        counted(self.cells.as_slice())
     }
 
     /// The term of a part, and `None` exactly for a number not made.

@@ -7,6 +7,7 @@ mod book;
 mod cell;
 mod cells;
 mod plain;
+mod totals;
 mod work;
 
 pub use answers::{ClaimRefusal, Look, MakeRefusal, Totals};
