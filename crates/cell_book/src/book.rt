@@ -231,6 +231,8 @@ impl Book {
     pub fn totals(&self) -> Totals
         ensures { result ≡ totals_of self.now.cells }
     {
+        // There are no more of them than the limit, which is a u32.
+        let _limit = self.limit;
         counted(self.cells.as_slice())
     }
 
