@@ -32,7 +32,6 @@ mutual
     ◌&◌ : Value C → Values C → Values C
 
 infixr 60 ◌&◌
-
 -- the members as a list, and back
 abbrev pub list : {C : Type 0} → Values C → List (Value C)
 list no_values = []
