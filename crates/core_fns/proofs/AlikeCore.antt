@@ -11,7 +11,7 @@ use Rattle.seq_plan.proofs.AlikeNodes.{like-cond, like-values, like-append, like
 use Rattle.seq_plan.proofs.AlikeLists.{like-give_list, like-of_value}
 use Rattle.seq_plan.proofs.AlikeTests.{like-is_nil, like-holds, like-bools}
 use Rattle.core_fns.specs.Arithmetic.{also, integers, on_integers, of_any, first_and_others, of_some, of_one, of_two, give_bool, give_int, from_left, minus, unless_zero}
-use Rattle.core_fns.specs.Transducers.{stages, all_stages, has_stage}
+use Rattle.seq_plan.proofs.AlikeStages.{like-has_stages}
 use Rattle.core_fns.specs.Table.{is_true, is_false, is_number, is_keyword, is_text, is_vector, is_function, is_reduced, unreduced, tells, give_function, give_vector, binds_one, partial, comp, completing, monoid, core_call, composed, comp_call, completing_call, monoid_call, core_function}
 
 module _ {C D : Type 0} {R : C → D → Type 0} where
@@ -183,15 +183,6 @@ module _ {C D : Type 0} {R : C → D → Type 0} where
 
   -- ## Calls of them
 
-  mutual
-    like-stages : {v : Value C} {w : Value D} → Like R v w → stages v ≡ stages w
-    like-stages (like_function h) = rw (like-all_stages h)
-    like-stages _ = refl
-
-    like-all_stages : {xs : Values C} {ys : Values D} → LikeAll R xs ys → all_stages xs ≡ all_stages ys
-    like-all_stages like_none = refl
-    like-all_stages (like_more h k) = rw (like-stages h, like-all_stages k)
-
   like-composed : {fs : List (Value C)} {gs : List (Value D)} → LikeList R fs gs → {xs : List (Value C)} {ys : List (Value D)} → LikeList R xs ys → {k : Value C → Plan C} {h : Value D → Plan D} → ((v : Value C) (w : Value D) → Like R v w → LikePlan R (k v) (h w)) → LikePlan R (composed fs xs k) (composed gs ys h)
   like-composed like_end q f = like_throw
   like-composed (like_item p like_end) q f = like_call p q f
@@ -202,7 +193,7 @@ module _ {C D : Type 0} {R : C → D → Type 0} where
   like-comp_call false p q = like-composed p q (λ v w e. like_give e)
 
   like-comp_function : {fs : List (Value C)} {gs : List (Value D)} → LikeList R fs gs → {xs : List (Value C)} {ys : List (Value D)} → LikeList R xs ys → LikePlan R (core_function T.Comp fs xs) (core_function T.Comp gs ys)
-  like-comp_function {fs = fs} {gs = gs} p {xs = xs} {ys = ys} q = subst (λ n. LikePlan R (core_function T.Comp fs xs) (comp_call (has_stage n) gs ys)) (like-all_stages (like-values p)) (like-comp_call _ p q)
+  like-comp_function {fs = fs} {gs = gs} p {xs = xs} {ys = ys} q = subst (λ b. LikePlan R (core_function T.Comp fs xs) (comp_call b gs ys)) (like-has_stages (like_function {t = T.Comp} (like-values p))) (like-comp_call _ p q)
 
   like-completing_call : {fs : List (Value C)} {gs : List (Value D)} → LikeList R fs gs → {xs : List (Value C)} {ys : List (Value D)} → LikeList R xs ys → LikePlan R (completing_call fs xs) (completing_call gs ys)
   like-completing_call (like_item f r) like_end = like_call f like_end (λ v w e. like_give e)

@@ -11,10 +11,10 @@ use Rattle.seq_values.specs.declared.words.Target.TheVariants as T
 use Rattle.seq_values.specs.Model.{Value, bool, int, keyword, text, vector, function, reduced, values}
 use Rattle.seq_plan.specs.Plan.{Plan, call, give, throw}
 use Rattle.seq_plan.specs.Nodes.{holds, is_nil, give_value, with_members}
+use Rattle.seq_plan.specs.Stages.{has_stages}
 use Rattle.seq_plan.specs.Lists.{give_list}
 use Rattle.seq_plan.specs.Arguments.{of_value}
 use Rattle.core_fns.specs.Arithmetic.{left_of, each_pair, is_even, of_any, of_some, of_one, of_two, give_bool, give_int, from_left, minus, quotient, remainder, modulus}
-use Rattle.core_fns.specs.Transducers.{all_stages, has_stage}
 
 module _ {C : Type 0} where
   -- ## Values by kind
@@ -172,7 +172,7 @@ module _ {C : Type 0} where
   -- What a call of a function does, by what is bound to it and the arguments. Transducers with a stage and reducers aren't called.
   abbrev pub core_function : Target → List (Value C) → List (Value C) → Plan C
   core_function T.Partial (f ∷ bs) xs = with_members (bs ++ xs) (λ ys. call f ys give)
-  core_function T.Comp fs xs = comp_call (has_stage (all_stages (values fs))) fs xs
+  core_function T.Comp fs xs = comp_call (has_stages (function T.Comp (values fs))) fs xs
   core_function T.Complement (f ∷ []) xs = call f xs (λ y. give_bool (not (holds y)))
   core_function T.Constantly (x ∷ []) xs = give x
   core_function T.Completing bs xs = completing_call bs xs
