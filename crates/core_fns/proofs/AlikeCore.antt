@@ -4,9 +4,9 @@ use Rattle.seq_values.specs.declared.words.Builtin.{Builtin}
 use Rattle.seq_values.specs.declared.words.Builtin.TheVariants as B
 use Rattle.seq_values.specs.declared.words.Target.{Target}
 use Rattle.seq_values.specs.declared.words.Target.TheVariants as T
-use Rattle.seq_values.specs.Model.{Value, Values}
+use Rattle.seq_values.specs.Model.{Value}
 use Rattle.seq_plan.specs.Plan.{Plan}
-use Rattle.seq_plan.specs.Alike.{Like, like_nil, like_bool, like_int, like_keyword, like_text, like_vector, like_function, like_reduced, LikeAll, like_none, like_more, LikeList, like_end, like_item, LikePlan, like_call, like_give, like_throw}
+use Rattle.seq_plan.specs.Alike.{Like, like_nil, like_bool, like_int, like_keyword, like_text, like_vector, like_function, like_reduced, LikeList, like_end, like_item, LikePlan, like_call, like_give, like_throw}
 use Rattle.seq_plan.proofs.AlikeNodes.{like-cond, like-values, like-append, like-give_value, like-with_members}
 use Rattle.seq_plan.proofs.AlikeLists.{like-give_list, like-of_value}
 use Rattle.seq_plan.proofs.AlikeTests.{like-is_nil, like-holds, like-bools}
