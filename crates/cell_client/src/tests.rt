@@ -74,13 +74,13 @@ fn no_claim_after_a_give_up(rt: HostRuntime) -> Result<(), Fail> {
 
 #[test]
 #[tactic(auto, using(crate::proofs::Keeping::sevens_new))]
-fn two_hundred_thousand_cells(rt: HostRuntime) -> Result<(), Fail> {
-    let mut book = book(&rt, 200000)?;
+fn a_million_cells(rt: HostRuntime) -> Result<(), Fail> {
+    let mut book = book(&rt, 1_048_576)?;
     let mut cells = PlainCells::over(&mut book);
     let Ok(form) = begin(&mut cells, 1) else {
         return Err(Fail::from("memory"));
     };
-    assert!(rt; fill(&mut cells, &form, 200000));
+    assert!(rt; fill(&mut cells, &form, 1_048_576));
     cells.finish(form, Value::Int(7));
     Ok(())
 }
