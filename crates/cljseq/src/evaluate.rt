@@ -198,8 +198,32 @@ fn cell_of(list: &Value) -> CellId
     }
 }
 
-/// Claims an empty cell.
+/// Looks at a cell, and then claims it: it is empty.
 fn claimed(cells: &mut PlainCells<'_>, by: &Work, id: CellId) -> Result<Work, NoMemory>
+    requires run { MayRun cells.old.book.now by.now 0 }
+    requires empty { (term : Rule) × IsEmptyAt cells.old.book.now id term }
+    ensures run { IfOk result (λ work. MayRun cells.new.book.now work 0) }
+    ensures place { IfOk result (λ work. (term : Rule) → IsEmptyAt cells.old.book.now id term → (kind : Sort) × (work.place ≡ Part id kind term)) }
+    ensures waits { OnOk result ((steps : List Step) (n : ℕ) (list : Item) → Waits cells.old.book.now steps n id list → Waits cells.new.book.now steps n id list) }
+    ensures apart { IfOk result (λ work. (w : Duty) → IsOwn cells.old.book.now w → w.claim ≢ work.claim) }
+    ensures others { (w : Duty) → IsOwn cells.old.book.now w → IsOwn cells.new.book.now w }
+{
+    match looked(cells, id)? {
+        Look::Empty => opened(cells, by, id),
+        _ => unreachable!(),
+    }
+}
+
+/// What a cell shows.
+fn looked(cells: &mut PlainCells<'_>, id: CellId) -> Result<Look, NoMemory>
+    ensures same { cells.new.book.now ≡ cells.old.book.now }
+    ensures shown { IfOk result (λ look. look ≡ shown (cell_at cells.old.book.now id)) }
+{
+    cells.look(id)
+}
+
+/// Opens a claim on an empty cell.
+fn opened(cells: &mut PlainCells<'_>, by: &Work, id: CellId) -> Result<Work, NoMemory>
     requires run { MayRun cells.old.book.now by.now 0 }
     requires empty { (term : Rule) × IsEmptyAt cells.old.book.now id term }
     ensures run { IfOk result (λ work. MayRun cells.new.book.now work 0) }
@@ -284,7 +308,7 @@ fn seen(cells: &mut PlainCells<'_>, id: CellId) -> Result<PVec<Value>, NoMemory>
     ensures same { cells.new.book.now ≡ cells.old.book.now }
     ensures items { IfOk result (λ items. shown (cell_at cells.old.book.now id) ≡ Done (Vector items)) }
 {
-    match cells.look(id)? {
+    match looked(cells, id)? {
         Look::Done(Value::Vector(items)) => Ok(items),
         _ => unreachable!(),
     }
