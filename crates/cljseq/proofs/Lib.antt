@@ -1,4 +1,5 @@
 pub mod AnswerLemmas
-pub mod ElementLemmas
+pub mod CellLemmas
+pub mod ItemLemmas
 pub mod NumberLemmas
 pub mod ShapeLemmas

@@ -1,13 +1,14 @@
-ghost use Rattle.std.specs.Prelude.{◌≡◌, ◌↔◌, ◌<◌, ◌⊎◌, ◌++◌, codes, length, IfSome};
+ghost use Rattle.std.specs.Prelude.{◌≡◌, ◌↔◌, ◌<◌, ◌≤◌, ◌⊎◌, ◌++◌, codes, length, IfSome};
 ghost use Rattle.std.specs.Fmt.{signed_decimal};
 ghost use Rattle.std.specs.Io.KnownBytes.{Appends, IsAtEnd, Keeps};
 ghost use Rattle.seq_base.specs.Causes.{Rose};
-ghost use Rattle.cljseq.specs.Answers.{AppendsPart, Printed, PrintedPart, refusal_line};
+ghost use Rattle.cljseq.specs.Answers.{AppendsPart, Printed, PrintedPart, refusal_line, sum_line};
 
-use crate::chain::total;
-use crate::shape::parse;
+use crate::evaluate::total;
+use crate::shape::{Chain, parse};
 use crate::status::Status;
 use seq_base::{ReadStop, Sink, Source, WriteStop, read_whole, write_whole};
+use seq_vector::NoMemory;
 use std::alloc::{AllocError, Global};
 
 /// The most bytes that a script may have.
@@ -78,7 +79,22 @@ fn run<O: Sink>(alloc: Global, text: &[u8], out: &mut O) -> Status
     match parse(alloc, text) {
         Err(AllocError) => Status::NoMemory,
         Ok(None) => refuse(out),
-        Ok(Some(chain)) => print(alloc, total(&chain.steps, chain.range), out),
+        Ok(Some(chain)) => print_total(alloc, &chain, out),
+    }
+}
+
+/// Writes the line of a list's sum.
+fn print_total<O: Sink>(alloc: Global, chain: &Chain, out: &mut O) -> Status
+    requires few { length chain.now.steps.items < 8 }
+    requires small { chain.now.range ≤ 1000 }
+    ensures done { result ≡ Status.Done → Appends (O.written out.old) (O.written out.new) (sum_line chain.now.steps.items chain.now.range) }
+    ensures part { (result ≡ Status.WriteFault) ⊎ (result ≡ Status.NoMemory) → AppendsPart (O.written out.old) (O.written out.new) (sum_line chain.now.steps.items chain.now.range) }
+    ensures write { result ≡ Status.WriteFault → Rose (O.faults out.old) (O.faults out.new) }
+    ensures others { (result ≡ Status.ScriptRefused → ⊥) × (result ≡ Status.Usage → ⊥) × (result ≡ Status.ReadFault → ⊥) × (result ≡ Status.DefThrew → ⊥) × (result ≡ Status.CellsSpent → ⊥) }
+{
+    match total(alloc, &chain.steps, chain.range) {
+        Ok(sum) => print(alloc, sum, out),
+        Err(NoMemory) => Status::NoMemory,
     }
 }
 
