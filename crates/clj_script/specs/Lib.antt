@@ -1,1 +1,16 @@
 pub mod Trees
+pub mod Words
+pub mod Refusals
+pub mod Sources
+pub mod Threading
+pub mod Scopes
+pub mod Locals
+pub mod Names
+pub mod Readings
+pub mod Judgements
+pub mod Scripts
+pub mod Literals
+pub mod Arena
+pub mod Entries
+pub mod Nodes
+pub mod Seen
