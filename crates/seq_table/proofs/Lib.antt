@@ -21,3 +21,8 @@ pub mod WorkedPulledAhead
 pub mod WorkedDropped
 pub mod WorkedJoinedOnce
 pub mod WorkedInPlace
+pub mod Sizes
+pub mod WrittenFirstOfMap
+pub mod WrittenNoneKept
+pub mod WrittenFailingChunk
+pub mod GeneratedOne

@@ -158,7 +158,7 @@ module _ (rules : Rules Name) (program : Program) (limit k : ℕ) (among : List 
     unfolding followed
     only_made x m = made_among rules program limit k among of_forms followed (parts_of rs) (λ e i j m p. part_in rs e (rw all i) j m p) m
 
-    only_given : (x : Name) → Realised rules program limit k x → IsIn x (given_in rs)
+    pub only_given : (x : Name) → Realised rules program limit k x → IsIn x (given_in rs)
     only_given _ (realised d g) = in_given rs _ _ (in_names d) g _ here
 
     only_thrown : (x : Name) → Failed rules program limit k x → IsIn x (thrown_in rs)

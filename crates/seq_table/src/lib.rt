@@ -3,6 +3,8 @@
 
 ghost use Rattle.seq_table.specs.Laws.{TableRenames};
 ghost use Rattle.seq_table.specs.Worked.{FirstOfMap, FirstOfIterate, FailingChunk, NoneKept, SequeOfThree, FoldAsTree, CompletedGroups, TakeOfNone, PlainCall, RestAndNext, NeverAsked, NestedMapcat, GroupedSequence, LazyAndVector, NestedValue, PulledAhead, Dropped, JoinedOnce, InPlace};
+ghost use Rattle.seq_table.specs.Generated.{OneGenerated};
+ghost use Rattle.seq_table.specs.Written.{FirstOfMapWritten, NoneKeptWritten, FailingChunkWritten};
 
 /// The rules look at cells only to ask them.
 pub fn law_table_renames()
@@ -102,4 +104,24 @@ pub fn worked_joined_once()
 /// `nth` visits the elements before its place.
 pub fn worked_in_place()
     ensures { InPlace }
+{}
+
+/// The script that is made from 1.
+pub fn worked_generated()
+    ensures { OneGenerated }
+{}
+
+/// What a run of that script writes.
+pub fn written_first_of_map()
+    ensures { FirstOfMapWritten }
+{}
+
+/// What a run of that script writes.
+pub fn written_none_kept()
+    ensures { NoneKeptWritten }
+{}
+
+/// What a run of that script writes.
+pub fn written_failing_chunk()
+    ensures { FailingChunkWritten }
 {}
