@@ -24,13 +24,13 @@ abbrev work_1 : Work
 work_1 = work [] (of_form dropped_1)
 
 abbrev makes_1_1 : List (Made Name)
-makes_1_1 = made Lazy (record { op = O.Drop; args = int (pos 5) ∷ range (pos 0) (pos 0) (pos 9) ∷ [] }) ∷ []
+makes_1_1 = made Lazy (record { op = O.Drop; args = int (pos 7) ∷ range (pos 0) (pos 0) (pos 9) ∷ [] }) ∷ []
 
 abbrev work_1_1 : Work
-work_1_1 = work ([]) (of_term (record { op = O.Drop; args = int (pos 5) ∷ range (pos 0) (pos 0) (pos 9) ∷ [] }))
+work_1_1 = work ([]) (of_term (record { op = O.Drop; args = int (pos 7) ∷ range (pos 0) (pos 0) (pos 9) ∷ [] }))
 
 abbrev answers_1_1 : List (Outcome Name)
-answers_1_1 = gave (range (pos 0) (pos 5) (pos 9)) ∷ []
+answers_1_1 = gave (range (pos 0) (pos 7) (pos 9)) ∷ []
 
 abbrev among_1 : List Name
 among_1 = (form 1) ∷ part_1_1 ∷ []
@@ -39,18 +39,18 @@ abbrev work_1_below : Work
 work_1_below = work [] (of_form dropped_1)
 
 abbrev makes_1_1_below : List (Made Name)
-makes_1_1_below = made Lazy (record { op = O.Drop; args = int (pos 5) ∷ range (pos 0) (pos 0) (pos 9) ∷ [] }) ∷ []
+makes_1_1_below = made Lazy (record { op = O.Drop; args = int (pos 7) ∷ range (pos 0) (pos 0) (pos 9) ∷ [] }) ∷ []
 
 abbrev work_1_1_below : Work
-work_1_1_below = work ([]) (of_term (record { op = O.Drop; args = int (pos 5) ∷ range (pos 0) (pos 0) (pos 9) ∷ [] }))
+work_1_1_below = work ([]) (of_term (record { op = O.Drop; args = int (pos 7) ∷ range (pos 0) (pos 0) (pos 9) ∷ [] }))
 
 abbrev answers_1_1_below : List (Outcome Name)
 answers_1_1_below = threw Steps ∷ []
 
--- With 5 steps or more:
+-- With 7 steps or more:
 module _ (n : ℕ) where
   abbrev limit : ℕ
-  limit = past 5 n
+  limit = past 7 n
 
   abbrev OfHere : Name → Work → Type 0
   OfHere e w = Of (language 4) dropped limit e w
@@ -77,29 +77,25 @@ module _ (n : ℕ) where
   of_1_1 : OfHere part_1_1 work_1_1
   of_1_1 = of_part is_1_1
 
-  end_1_1 : run (language 4) dropped limit part_1_1 work_1_1 [] ≡ ends (gave (range (pos 0) (pos 5) (pos 9))) []
+  end_1_1 : run (language 4) dropped limit part_1_1 work_1_1 [] ≡ ends (gave (range (pos 0) (pos 7) (pos 9))) []
   unfolding run walk digits
   end_1_1 = by n
     where
-      by : (n : ℕ) → run (language 4) dropped (past 5 n) part_1_1 work_1_1 [] ≡ ends (gave (range (pos 0) (pos 5) (pos 9))) []
+      by : (n : ℕ) → run (language 4) dropped (past 7 n) part_1_1 work_1_1 [] ≡ ends (gave (range (pos 0) (pos 7) (pos 9))) []
       by zero = refl
       by (suc n) = refl
 
-  gives_1_1 : GivesHere part_1_1 (gave (range (pos 0) (pos 5) (pos 9)))
+  gives_1_1 : GivesHere part_1_1 (gave (range (pos 0) (pos 7) (pos 9)))
   gives_1_1 = gives of_1_1 (no_answer of_1_1) end_1_1
 
   abbrev true_1_1 : TrueHere (form 1) answers_1_1
   true_1_1 = one_more of_1 (no_answer of_1) needs_1_0 gives_1_1
 
-  end_1 : run (language 4) dropped limit (form 1) work_1 answers_1_1 ≡ ends (gave (text (codes "5"))) makes_1_1
+  end_1 : run (language 4) dropped limit (form 1) work_1 answers_1_1 ≡ ends (gave (text (codes "7"))) makes_1_1
   unfolding run walk digits
-  end_1 = by n
-    where
-      by : (n : ℕ) → run (language 4) dropped (past 5 n) (form 1) work_1 answers_1_1 ≡ ends (gave (text (codes "5"))) makes_1_1
-      by zero = refl
-      by (suc n) = refl
+  end_1 = refl
 
-  gives_1 : GivesHere (form 1) (gave (text (codes "5")))
+  gives_1 : GivesHere (form 1) (gave (text (codes "7")))
   gives_1 = gives of_1 true_1_1 end_1
 
   demand_1_at_1 : Demand (language 4) dropped limit 1 (form 1)
@@ -113,13 +109,13 @@ module _ (n : ℕ) where
   futures_1_at_1 (suc j) t p = absurd cc
 
   abbrev row_1_at_1 : Row (language 4) dropped limit 1 among_1
-  row_1_at_1 = record { name = (form 1); followed = record { w = work_1; a = answers_1_1; o = gave (text (codes "5")); ms = makes_1_1; of = of_1; answers = true_1_1; end = end_1; asks = (one_leads (leads_on (no_failure (language 4) dropped limit 1 among_1 gives_1_1) (there here)) none_leads); futures = futures_1_at_1 }; demand = demand_1_at_1 }
+  row_1_at_1 = record { name = (form 1); followed = record { w = work_1; a = answers_1_1; o = gave (text (codes "7")); ms = makes_1_1; of = of_1; answers = true_1_1; end = end_1; asks = (one_leads (leads_on (no_failure (language 4) dropped limit 1 among_1 gives_1_1) (there here)) none_leads); futures = futures_1_at_1 }; demand = demand_1_at_1 }
 
   futures_1_1_at_1 : (j : ℕ) (t : Term Name) → slice_get [] j ≡ Some (made Future t) → IsIn (part part_1_1 (suc j)) among_1
   futures_1_1_at_1 j t p = absurd cc
 
   abbrev row_1_1_at_1 : Row (language 4) dropped limit 1 among_1
-  row_1_1_at_1 = record { name = part_1_1; followed = record { w = work_1_1; a = []; o = gave (range (pos 0) (pos 5) (pos 9)); ms = []; of = of_1_1; answers = (no_answer of_1_1); end = end_1_1; asks = none_leads; futures = futures_1_1_at_1 }; demand = demand_1_1_at_1 }
+  row_1_1_at_1 = record { name = part_1_1; followed = record { w = work_1_1; a = []; o = gave (range (pos 0) (pos 7) (pos 9)); ms = []; of = of_1_1; answers = (no_answer of_1_1); end = end_1_1; asks = none_leads; futures = futures_1_1_at_1 }; demand = demand_1_1_at_1 }
 
   abbrev rows_at_1 : List (Row (language 4) dropped limit 1 among_1)
   rows_at_1 = row_1_at_1 ∷ row_1_1_at_1 ∷ []
@@ -131,9 +127,9 @@ module _ (n : ℕ) where
   totals_at_1 : Totals dropped limit 1 1 1 0
   totals_at_1 = totals_of (language 4) dropped limit 1 among_1 rows_at_1 forms_at_1 refl refl refl refl refl refl refl
 
--- With 4 steps:
+-- With 6 steps:
 abbrev limit_below : ℕ
-limit_below = 4
+limit_below = 6
 
 abbrev OfHere_below : Name → Work → Type 0
 OfHere_below e w = Of (language 4) dropped limit_below e w
@@ -178,4 +174,4 @@ gives_1_below : GivesHere_below (form 1) (threw Steps)
 gives_1_below = gives of_1_below true_1_1_below end_1_below
 
 pub dropped_holds : Dropped
-dropped_holds = (λ limit h. from_past (λ limit. Prints dropped limit 1 (codes "5") × Totals dropped limit 1 1 1 0) 5 limit h (λ n. (gives_1 n, totals_at_1 n)), gives_1_below)
+dropped_holds = (λ limit h. from_past (λ limit. Prints dropped limit 1 (codes "7") × Totals dropped limit 1 1 1 0) 7 limit h (λ n. (gives_1 n, totals_at_1 n)), gives_1_below)

@@ -337,18 +337,18 @@ PulledAhead =
     × Throws pulled_ahead 63 2 Steps
 
 abbrev pub dropped_1 : Top
-dropped_1 = prn (calls B.First (calls B.Drop (number 5 ∷ calls B.Range (number 9 ∷ []) ∷ []) ∷ []))
+dropped_1 = prn (calls B.First (calls B.Drop (number 7 ∷ calls B.Range (number 9 ∷ []) ∷ []) ∷ []))
 
--- (prn (first (drop 5 (range 9))))
+-- (prn (first (drop 7 (range 9))))
 abbrev pub dropped : Program
 dropped = record { functions = []; bodies = []; names = []; tops = dropped_1 ∷ [] }
 
 -- Each element that is dropped is visited.
 abbrev pub Dropped : Type 0
 Dropped =
-    ((limit : ℕ) → 5 ≤ limit → Prints dropped limit 1 (codes "5")
+    ((limit : ℕ) → 7 ≤ limit → Prints dropped limit 1 (codes "7")
     × Totals dropped limit 1 1 1 0)
-    × Throws dropped 4 1 Steps
+    × Throws dropped 6 1 Steps
 
 abbrev pub joined_once_1 : Top
 joined_once_1 = defn
