@@ -26,3 +26,6 @@ pub mod WrittenFirstOfMap
 pub mod WrittenNoneKept
 pub mod WrittenFailingChunk
 pub mod GeneratedOne
+pub mod TrueWalk
+pub mod NotOver
+pub mod Replay

@@ -9,3 +9,4 @@ pub mod Generated
 pub mod Answers
 pub mod FoldTrees
 pub mod Written
+pub mod Coming

@@ -2,6 +2,7 @@
 #![tactic(auto)]
 
 ghost use Rattle.seq_table.specs.Laws.{TableRenames};
+ghost use Rattle.seq_table.specs.Coming.{GivesWhatComes};
 ghost use Rattle.seq_table.specs.Worked.{FirstOfMap, FirstOfIterate, FailingChunk, NoneKept, SequeOfThree, FoldAsTree, CompletedGroups, TakeOfNone, PlainCall, RestAndNext, NeverAsked, NestedMapcat, GroupedSequence, LazyAndVector, NestedValue, PulledAhead, Dropped, JoinedOnce, InPlace};
 ghost use Rattle.seq_table.specs.Generated.{OneGenerated};
 ghost use Rattle.seq_table.specs.Written.{FirstOfMapWritten, NoneKeptWritten, FailingChunkWritten};
@@ -9,6 +10,11 @@ ghost use Rattle.seq_table.specs.Written.{FirstOfMapWritten, NoneKeptWritten, Fa
 /// The rules look at cells only to ask them.
 pub fn law_table_renames()
     ensures { TableRenames }
+{}
+
+/// An evaluation that gives a value gives what the plan of its work comes to.
+pub fn law_gives_what_comes()
+    ensures { GivesWhatComes }
 {}
 
 /// A chunk of three is mapped where its first element is asked.

@@ -1,0 +1,12 @@
+-- What evaluations give, and what their plans come to.
+use Rattle.std.specs.Prelude.{ℕ, List}
+use Rattle.seq_values.specs.Model.{Value, gave}
+use Rattle.clj_script.specs.Trees.{Program}
+use Rattle.seq_meaning.specs.Names.{Name}
+use Rattle.seq_meaning.specs.Gives.{Task, work, task_plan, Of, Gives}
+use Rattle.seq_table.specs.Table.{language}
+use Rattle.seq_table.specs.World.{names_world, Comes}
+
+-- An evaluation that gives a value gives what the plan of its work comes to.
+abbrev pub GivesWhatComes : Type 0
+GivesWhatComes = (processors : ℕ) (program : Program) (limit : ℕ) (e : Name) (defs : List (Value Name)) (t : Task) (v : Value Name) → Of (language processors) program limit e (work defs t) → Gives (language processors) program limit e (gave v) → Comes (names_world (language processors) program limit) defs (task_plan (language processors) program limit defs t) v
