@@ -29,3 +29,4 @@ pub mod GeneratedOne
 pub mod TrueWalk
 pub mod NotOver
 pub mod Replay
+pub mod OneRun

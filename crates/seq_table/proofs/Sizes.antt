@@ -45,3 +45,10 @@ module _ {A : Type 0} where
 
   pub over_of : {P : A → Type 0} {size : ℕ} → HasSize P size → (cells : ℕ) → cells < size → HasOver P cells
   over_of (has_size m e all only len) cells h = (m, e, all, omega arith)
+
+  -- a set has one size
+  pub one_size : {P : A → Type 0} {n m : ℕ} → HasSize P n → HasSize P m → n ≡ m
+  one_size (has_size l d all only p) (has_size m e all' only' q) =
+      let a = no_longer l m d (λ x i. only' x (all x i)) in
+      let b = no_longer m l e (λ x i. only x (all' x i)) in
+      omega arith

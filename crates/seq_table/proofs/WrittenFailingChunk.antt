@@ -17,7 +17,7 @@ use Rattle.clj_script.specs.Trees.{def}
 use Rattle.seq_meaning.specs.Counts.{Realised}
 use Rattle.seq_meaning.proofs.Once.{one_gives}
 use Rattle.seq_table.specs.Fronts.{front_unrealised}
-use Rattle.seq_table.specs.Outputs.{no_lines, line_of, ledger_of, Line, line_of_def, line_of_defn, line_of_error, line_of_ledger, Output, no_output, one_more_line, DefThrows, def_throws, IsReached, Ran, ran_through, done}
+use Rattle.seq_table.specs.Outputs.{no_lines, line_of, ledger_of, Line, line_of_def, line_of_defn, line_of_failed_prn, line_of_ledger, Output, no_output, one_more_line, DefThrows, def_throws, IsReached, Ran, ran_through, done}
 use Rattle.seq_table.specs.Worked.{Totals, failing_chunk_1, failing_chunk_2, failing_chunk_3, failing_chunk_4, failing_chunk_5, failing_chunk}
 use Rattle.seq_table.specs.Written.{FailingChunkWritten}
 use Rattle.seq_table.proofs.Rows.{Row, given_in, only_given, totals_of}
@@ -288,7 +288,7 @@ module _ (n : ℕ) where
 
   line_3 : Line (language 4) failing_chunk limit 3 (codes "threw divide\n")
   unfolding digits
-  line_3 = line_of_error gives_3
+  line_3 = line_of_failed_prn refl gives_3
 
   output_3 : Output (language 4) failing_chunk limit 3 (codes "threw divide\n")
   output_3 = one_more_line output_2 line_3
@@ -400,7 +400,7 @@ module _ (n : ℕ) where
 
   line_4 : Line (language 4) failing_chunk limit 4 (codes "threw divide\n")
   unfolding digits
-  line_4 = line_of_error gives_4
+  line_4 = line_of_failed_prn refl gives_4
 
   output_4 : Output (language 4) failing_chunk limit 4 (codes "threw divide\nthrew divide\n")
   output_4 = one_more_line output_3 line_4

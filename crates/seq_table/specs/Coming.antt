@@ -1,12 +1,17 @@
--- What evaluations give, and what their plans come to.
-use Rattle.std.specs.Prelude.{ℕ, List}
+-- Laws of the language: what evaluations give is what their plans come to, and a program has one output.
+use Rattle.std.specs.Prelude.{◌≡◌, ℕ, List}
 use Rattle.seq_values.specs.Model.{Value, gave}
 use Rattle.clj_script.specs.Trees.{Program}
 use Rattle.seq_meaning.specs.Names.{Name}
 use Rattle.seq_meaning.specs.Gives.{Task, work, task_plan, Of, Gives}
 use Rattle.seq_table.specs.Table.{language}
 use Rattle.seq_table.specs.World.{names_world, Comes}
+use Rattle.seq_table.specs.Outputs.{Ending, Ran}
 
 -- An evaluation that gives a value gives what the plan of its work comes to.
 abbrev pub GivesWhatComes : Type 0
 GivesWhatComes = (processors : ℕ) (program : Program) (limit : ℕ) (e : Name) (defs : List (Value Name)) (t : Task) (v : Value Name) → Of (language processors) program limit e (work defs t) → Gives (language processors) program limit e (gave v) → Comes (names_world (language processors) program limit) defs (task_plan (language processors) program limit defs t) v
+
+-- A run ends in one way, with one text.
+abbrev pub OneRun : Type 0
+OneRun = (processors : ℕ) (program : Program) (limit cells : ℕ) (a b : Ending) (xs ys : List ℕ) → Ran (language processors) program limit cells a xs → Ran (language processors) program limit cells b ys → (a ≡ b) × (xs ≡ ys)

@@ -51,6 +51,10 @@ end_mark false = []
 abbrev pub front_line : List ℕ → ℕ → Bool → List ℕ
 front_line name n ended = name ++ codes " " ++ decimal n ++ end_mark ended ++ newline
 
+-- an error that is thrown shows its word
+abbrev pub error_line : Thrown → List ℕ
+error_line x = codes "threw " ++ word x ++ newline
+
 abbrev pub totals_line : ℕ → ℕ → ℕ → List ℕ
 totals_line makes realises fails = codes "cells " ++ decimal makes ++ codes " realised " ++ decimal realises ++ codes " failed " ++ decimal fails ++ newline
 
@@ -76,7 +80,8 @@ module _ (rules : Rules Name) (program : Program) (limit : ℕ) where
     line_of_def : {k name : ℕ} {e : Expr} {v : Value Name} → slice_get program.tops k ≡ Some (def name e) → Gives rules program limit (form (suc k)) (gave v) → Line (suc k) []
     line_of_defn : {k : ℕ} → slice_get program.tops k ≡ Some defn → Line (suc k) []
     line_of_prn : {k : ℕ} {e : Expr} {bytes : List ℕ} → slice_get program.tops k ≡ Some (prn e) → Gives rules program limit (form (suc k)) (gave (text bytes)) → Line (suc k) (bytes ++ newline)
-    line_of_error : {k : ℕ} {x : Thrown} → Gives rules program limit (form (suc k)) (threw x) → Line (suc k) (codes "threw " ++ word x ++ newline)
+    line_of_failed_def : {k name : ℕ} {e : Expr} {x : Thrown} → slice_get program.tops k ≡ Some (def name e) → Gives rules program limit (form (suc k)) (threw x) → Line (suc k) (error_line x)
+    line_of_failed_prn : {k : ℕ} {e : Expr} {x : Thrown} → slice_get program.tops k ≡ Some (prn e) → Gives rules program limit (form (suc k)) (threw x) → Line (suc k) (error_line x)
     line_of_ledger : {k : ℕ} {bytes : List ℕ} → slice_get program.tops k ≡ Some ledger → Ledger (suc k) bytes → Line (suc k) bytes
 
   -- the lines of the first k forms, joined
