@@ -30,3 +30,4 @@ pub mod TrueWalk
 pub mod NotOver
 pub mod Replay
 pub mod OneRun
+pub mod FoldedTree

@@ -1,11 +1,14 @@
 -- Laws of the language: what evaluations give is what their plans come to, and a program has one output.
-use Rattle.std.specs.Prelude.{◌≡◌, ℕ, List}
+use Rattle.std.specs.Prelude.{◌≡◌, ℕ, ◌≤◌, pos, List}
 use Rattle.seq_values.specs.Model.{Value, gave}
 use Rattle.clj_script.specs.Trees.{Program}
+use Rattle.seq_plan.specs.Plan.{give}
+use Rattle.fold_rules.specs.Table.{fold_items}
 use Rattle.seq_meaning.specs.Names.{Name}
 use Rattle.seq_meaning.specs.Gives.{Task, work, task_plan, Of, Gives}
 use Rattle.seq_table.specs.Table.{language}
 use Rattle.seq_table.specs.World.{names_world, Comes}
+use Rattle.seq_table.specs.FoldTrees.{FoldTree}
 use Rattle.seq_table.specs.Outputs.{Ending, Ran}
 
 -- An evaluation that gives a value gives what the plan of its work comes to.
@@ -15,3 +18,7 @@ GivesWhatComes = (processors : ℕ) (program : Program) (limit : ℕ) (e : Name)
 -- A run ends in one way, with one text.
 abbrev pub OneRun : Type 0
 OneRun = (processors : ℕ) (program : Program) (limit cells : ℕ) (a b : Ending) (xs ys : List ℕ) → Ran (language processors) program limit cells a xs → Ran (language processors) program limit cells b ys → (a ≡ b) × (xs ≡ ys)
+
+-- What a fold comes to is the tree of its items: a future that folds the second half gives that half's tree.
+abbrev pub FoldIsTree : Type 0
+FoldIsTree = (processors : ℕ) (program : Program) (limit : ℕ) (defs : List (Value Name)) (size : ℕ) (combine f : Value Name) (stages items : List (Value Name)) (y : Value Name) → 1 ≤ size → Comes (names_world (language processors) program limit) defs (fold_items (pos size) combine f stages items give) y → FoldTree (names_world (language processors) program limit) defs size combine f stages items y

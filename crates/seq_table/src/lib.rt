@@ -2,7 +2,7 @@
 #![tactic(auto)]
 
 ghost use Rattle.seq_table.specs.Laws.{TableRenames};
-ghost use Rattle.seq_table.specs.Coming.{GivesWhatComes, OneRun};
+ghost use Rattle.seq_table.specs.Coming.{FoldIsTree, GivesWhatComes, OneRun};
 ghost use Rattle.seq_table.specs.Worked.{FirstOfMap, FirstOfIterate, FailingChunk, NoneKept, SequeOfThree, FoldAsTree, CompletedGroups, TakeOfNone, PlainCall, RestAndNext, NeverAsked, NestedMapcat, GroupedSequence, LazyAndVector, NestedValue, PulledAhead, Dropped, JoinedOnce, InPlace};
 ghost use Rattle.seq_table.specs.Generated.{OneGenerated};
 ghost use Rattle.seq_table.specs.Written.{FirstOfMapWritten, NoneKeptWritten, FailingChunkWritten};
@@ -15,6 +15,11 @@ pub fn law_table_renames()
 /// An evaluation that gives a value gives what the plan of its work comes to.
 pub fn law_gives_what_comes()
     ensures { GivesWhatComes }
+{}
+
+/// What a fold comes to is the tree of its items.
+pub fn law_fold_is_tree()
+    ensures { FoldIsTree }
 {}
 
 /// A run of a program ends in one way, with one text.
