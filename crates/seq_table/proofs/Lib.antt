@@ -31,3 +31,7 @@ pub mod NotOver
 pub mod Replay
 pub mod OneRun
 pub mod FoldedTree
+pub mod WrittenMadeScript
+pub mod WorkedMadeScript
+pub mod MadeAnswer
+pub mod WrittenMadeScriptParts

@@ -61,7 +61,7 @@ module _ (Means : List ℕ → Program → Type 0) (Refuses : List ℕ → Refus
   pub data Answered (script : List ℕ) : Option Options → Status → List ℕ → Type 0 where
     no_options : Answered script None usage []
     -- a script that is made isn't refused, and nothing is read for it
-    made_script : {n : ℕ} {options : Options} {program : Program} {ending : Ending} {bytes : List ℕ} → options.request ≡ generates n → Means (generated n) program → RanBy options program ending bytes → Answered script (Some options) (ended ending) (summary (length program.tops) bytes)
+    script_made : {n : ℕ} {options : Options} {program : Program} {ending : Ending} {bytes : List ℕ} → options.request ≡ generates n → Means (generated n) program → RanBy options program ending bytes → Answered script (Some options) (ended ending) (summary (length program.tops) bytes)
     refused_to_check : {options : Options} {r : Refusal} → options.request ≡ checks → Refuses script r → Answered script (Some options) script_refused (refusal_line r)
     refused_to_run : {options : Options} {r : Refusal} → options.request ≡ runs → Refuses script r → Answered script (Some options) script_refused (refusal_line r)
     looked_at : {options : Options} {program : Program} → options.request ≡ checks → Means script program → Answered script (Some options) (ended done) (forms_line (length program.tops))

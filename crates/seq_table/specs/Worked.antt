@@ -380,3 +380,23 @@ InPlace =
     ((limit : ℕ) → 7 ≤ limit → Prints in_place limit 1 (codes "4")
     × Totals in_place limit 1 0 0 0)
     × Throws in_place 6 1 Steps
+
+abbrev pub made_script_1 : Top
+made_script_1 = def 0 (calls B.Pmap (word B.Inc ∷ calls B.Range (number 10 ∷ []) ∷ []))
+
+abbrev pub made_script_2 : Top
+made_script_2 = prn (calls B.First (defined 1 ∷ []))
+
+abbrev pub made_script_3 : Top
+made_script_3 = ledger
+
+-- (def s1 (pmap inc (range 10))) (prn (first s1)) (ledger)
+abbrev pub made_script : Program
+made_script = record { functions = []; bodies = []; names = codes "s1" ∷ []; tops = made_script_1 ∷ made_script_2 ∷ made_script_3 ∷ [] }
+
+-- The script that is made from 1: ten calls run ahead, of which one is asked.
+abbrev pub MadeScript : Type 0
+MadeScript =
+    ((limit : ℕ) → 7 ≤ limit → Prints made_script limit 2 (codes "1")
+    × Totals made_script limit 3 15 13 0)
+    × Throws made_script 6 2 Steps

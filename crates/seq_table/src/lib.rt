@@ -3,9 +3,9 @@
 
 ghost use Rattle.seq_table.specs.Laws.{TableRenames};
 ghost use Rattle.seq_table.specs.Coming.{FoldIsTree, GivesWhatComes, OneRun};
-ghost use Rattle.seq_table.specs.Worked.{FirstOfMap, FirstOfIterate, FailingChunk, NoneKept, SequeOfThree, FoldAsTree, CompletedGroups, TakeOfNone, PlainCall, RestAndNext, NeverAsked, NestedMapcat, GroupedSequence, LazyAndVector, NestedValue, PulledAhead, Dropped, JoinedOnce, InPlace};
+ghost use Rattle.seq_table.specs.Worked.{FirstOfMap, FirstOfIterate, FailingChunk, NoneKept, SequeOfThree, FoldAsTree, CompletedGroups, TakeOfNone, PlainCall, RestAndNext, NeverAsked, NestedMapcat, GroupedSequence, LazyAndVector, NestedValue, PulledAhead, Dropped, JoinedOnce, InPlace, MadeScript};
 ghost use Rattle.seq_table.specs.Generated.{OneGenerated};
-ghost use Rattle.seq_table.specs.Written.{FirstOfMapWritten, NoneKeptWritten, FailingChunkWritten};
+ghost use Rattle.seq_table.specs.Written.{FirstOfMapWritten, NoneKeptWritten, FailingChunkWritten, MadeScriptWritten, MadeScriptAnswered};
 
 /// The rules look at cells only to ask them.
 pub fn law_table_renames()
@@ -140,4 +140,19 @@ pub fn written_none_kept()
 /// What a run of that script writes.
 pub fn written_failing_chunk()
     ensures { FailingChunkWritten }
+{}
+
+/// The script that is made from 1: ten calls run ahead, of which one is asked.
+pub fn worked_made_script()
+    ensures { MadeScript }
+{}
+
+/// What a run of that script writes.
+pub fn written_made_script()
+    ensures { MadeScriptWritten }
+{}
+
+/// What the program answers where it is asked to make and run that script.
+pub fn answered_made_script()
+    ensures { MadeScriptAnswered }
 {}
