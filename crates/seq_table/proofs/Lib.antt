@@ -35,3 +35,6 @@ pub mod WrittenMadeScript
 pub mod WorkedMadeScript
 pub mod MadeAnswer
 pub mod WrittenMadeScriptParts
+pub mod Seqs
+pub mod ListRows
+pub mod ListsOf

@@ -1,13 +1,14 @@
 -- Laws of the language: what evaluations give is what their plans come to, and a program has one output.
 use Rattle.std.specs.Prelude.{◌≡◌, ℕ, ◌≤◌, pos, List}
-use Rattle.seq_values.specs.Model.{Value, gave}
+use Rattle.seq_values.specs.Model.{Value, Term, gave}
 use Rattle.clj_script.specs.Trees.{Program}
 use Rattle.seq_plan.specs.Plan.{give}
 use Rattle.fold_rules.specs.Table.{fold_items}
 use Rattle.seq_meaning.specs.Names.{Name}
-use Rattle.seq_meaning.specs.Gives.{Task, work, task_plan, Of, Gives}
+use Rattle.seq_meaning.specs.Gives.{Task, of_term, work, task_plan, Of, Gives}
 use Rattle.seq_table.specs.Table.{language}
-use Rattle.seq_table.specs.World.{names_world, Comes}
+use Rattle.seq_table.specs.World.{names_world, Seen, Begins, Comes}
+use Rattle.seq_table.specs.Lists.{HasList, InList}
 use Rattle.seq_table.specs.FoldTrees.{FoldTree}
 use Rattle.seq_table.specs.Outputs.{Ending, Ran}
 
@@ -22,3 +23,7 @@ OneRun = (processors : ℕ) (program : Program) (limit cells : ℕ) (a b : Endin
 -- What a fold comes to is the tree of its items: a future that folds the second half gives that half's tree.
 abbrev pub FoldIsTree : Type 0
 FoldIsTree = (processors : ℕ) (program : Program) (limit : ℕ) (defs : List (Value Name)) (size : ℕ) (combine f : Value Name) (stages items : List (Value Name)) (y : Value Name) → 1 ≤ size → Comes (names_world (language processors) program limit) defs (fold_items (pos size) combine f stages items give) y → FoldTree (names_world (language processors) program limit) defs size combine f stages items y
+
+-- What an evaluation of a term gives begins as the list that the term stands for, for the terms of `HasList`. Each part that is read on the way gives a value.
+abbrev pub ListsOfTerms : Type 0
+ListsOfTerms = (processors : ℕ) (program : Program) (limit : ℕ) (e : Name) (defs : List (Value Name)) (t : Term Name) (v : Value Name) (l : Seen Name) → HasList (names_world (language processors) program limit) t → Of (language processors) program limit e (work defs (of_term t)) → Gives (language processors) program limit e (gave v) → Begins (names_world (language processors) program limit) v l → InList (names_world (language processors) program limit) defs t l

@@ -10,3 +10,4 @@ pub mod Answers
 pub mod FoldTrees
 pub mod Written
 pub mod Coming
+pub mod Lists

@@ -2,7 +2,7 @@
 #![tactic(auto)]
 
 ghost use Rattle.seq_table.specs.Laws.{TableRenames};
-ghost use Rattle.seq_table.specs.Coming.{FoldIsTree, GivesWhatComes, OneRun};
+ghost use Rattle.seq_table.specs.Coming.{FoldIsTree, GivesWhatComes, ListsOfTerms, OneRun};
 ghost use Rattle.seq_table.specs.Worked.{FirstOfMap, FirstOfIterate, FailingChunk, NoneKept, SequeOfThree, FoldAsTree, CompletedGroups, TakeOfNone, PlainCall, RestAndNext, NeverAsked, NestedMapcat, GroupedSequence, LazyAndVector, NestedValue, PulledAhead, Dropped, JoinedOnce, InPlace, MadeScript};
 ghost use Rattle.seq_table.specs.Generated.{OneGenerated};
 ghost use Rattle.seq_table.specs.Written.{FirstOfMapWritten, NoneKeptWritten, FailingChunkWritten, MadeScriptWritten, MadeScriptAnswered};
@@ -20,6 +20,11 @@ pub fn law_gives_what_comes()
 /// What a fold comes to is the tree of its items.
 pub fn law_fold_is_tree()
     ensures { FoldIsTree }
+{}
+
+/// What an evaluation of a term gives begins as the list that the term stands for.
+pub fn law_lists()
+    ensures { ListsOfTerms }
 {}
 
 /// A run of a program ends in one way, with one text.
