@@ -38,3 +38,5 @@ pub mod WrittenMadeScriptParts
 pub mod Seqs
 pub mod ListRows
 pub mod ListsOf
+pub mod Counted
+pub mod DropRows

@@ -191,6 +191,8 @@ module _ {C : Type 0} (w : World C) where
   pub data HasList : Term C → Type 0 where
     has_take : {n : ℤ} {c : Value C} → HasList (record { op = O.Take; args = int n ∷ c ∷ [] })
     has_take_while : {p c : Value C} → HasList (record { op = O.TakeWhile; args = p ∷ c ∷ [] })
+    has_drop : {n : ℤ} {c : Value C} → HasList (record { op = O.Drop; args = int n ∷ c ∷ [] })
+    has_drop_while : {p c : Value C} → HasList (record { op = O.DropWhile; args = p ∷ c ∷ [] })
     has_next : {f x : Value C} → HasList (record { op = O.Next; args = f ∷ x ∷ [] })
     has_repeat : {x : Value C} → HasList (record { op = O.Repeat; args = x ∷ [] })
     has_cycle : {whole c : Value C} → HasList (record { op = O.Cycle; args = whole ∷ c ∷ [] })
