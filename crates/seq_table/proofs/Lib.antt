@@ -40,3 +40,4 @@ pub mod ListRows
 pub mod ListsOf
 pub mod Counted
 pub mod DropRows
+pub mod ChunkedRows

@@ -7,7 +7,8 @@ use Rattle.seq_meaning.specs.Names.{Name}
 use Rattle.seq_meaning.specs.Gives.{work, of_term, Of, Gives}
 use Rattle.seq_table.specs.Table.{language}
 use Rattle.seq_table.specs.World.{World, names_world, Seen, cut, done, ◌▸◌, Begins, not_read, asked, at_end, element}
-use Rattle.seq_table.specs.Lists.{◌▸▸◌, CutOf, cut_here, cut_done, cut_later, taken_cut, while_cut, dropped_cut, until_cut, of_drop, of_drop_while, has_drop, has_drop_while, iterated_cut, repeated_cut, cycled_cut, Meant, of_take, of_take_while, of_next, of_repeat, of_cycle, InList, nothing_read, so_far, HasList, has_take, has_take_while, has_next, has_repeat, has_cycle, At, stops, shows, leads, is_rest, Opens, RowOf}
+use Rattle.seq_table.proofs.ChunkedRows.{map_row, filter_row}
+use Rattle.seq_table.specs.Lists.{each_cut, sifted_cut, of_map, of_filter, has_map, has_filter, ◌▸▸◌, CutOf, cut_here, cut_done, cut_later, taken_cut, while_cut, dropped_cut, until_cut, of_drop, of_drop_while, has_drop, has_drop_while, iterated_cut, repeated_cut, cycled_cut, Meant, of_take, of_take_while, of_next, of_repeat, of_cycle, InList, nothing_read, so_far, HasList, has_take, has_take_while, has_next, has_repeat, has_cycle, At, stops, shows, leads, is_rest, Opens, RowOf}
 use Rattle.seq_table.proofs.Replay.{comes_of, open_part}
 use Rattle.seq_table.proofs.DropRows.{drop_row, drop_while_row}
 use Rattle.seq_table.proofs.ListRows.{take_row, take_while_row, next_row, repeat_row, cycle_row}
@@ -37,6 +38,8 @@ module _ {C : Type 0} where
 module _ {C : Type 0} (w : World C) where
   -- of each of the lists a part with nothing read stands; a line for each row
   begun : {defs : List (Value C)} {t : Term C} → HasList w t → Meant w defs t cut
+  begun (has_map s) = of_map not_read each_cut
+  begun (has_filter s) = of_filter not_read sifted_cut
   begun has_take = of_take not_read taken_cut
   begun has_take_while = of_take_while not_read while_cut
   begun has_drop = of_drop not_read dropped_cut
@@ -92,6 +95,8 @@ module _ (processors : ℕ) (program : Program) (limit : ℕ) where
 
   -- a line for each row
   row : (t : Term Name) → HasList here t → RowOf here t
+  row t (has_map {f = f} {c = c} s) defs v d = map_row here defs f c s d
+  row t (has_filter {p = p} {c = c} s) defs v d = filter_row here defs p c s d
   row t (has_take {n = n} {c = c}) defs v d = take_row here n c defs d
   row t (has_take_while {p = p} {c = c}) defs v d = take_while_row here p c defs d
   row t (has_drop {n = n} {c = c}) defs v d = drop_row processors program limit defs n c d

@@ -1,17 +1,18 @@
 -- The list that a term stands for, where no call and no ask throws. Chunks, demand and step counts play no part in it.
-use Rattle.std.specs.Prelude.{◌≡◌, ◌<◌, ℤ, pos, ◌-ℤ◌, ◌≤ℤ◌, int_le, Bool, true, false, List, [], ◌∷◌, ◌++◌, length}
+use Rattle.std.specs.Prelude.{◌≡◌, ◌<◌, ℤ, pos, ◌-ℤ◌, ◌≤ℤ◌, int_le, Bool, true, false, List, [], ◌∷◌, ◌++◌, length, ℕ, nat_lt, int_lt, Some}
 use Rattle.seq_values.specs.declared.words.Kind.{Kind}
 use Rattle.seq_values.specs.declared.words.Kind.TheVariants.{Future}
 use Rattle.seq_values.specs.declared.words.Op.TheVariants as O
-use Rattle.seq_values.specs.Model.{Value, nil, int, cell, Term}
+use Rattle.seq_values.specs.Model.{Value, nil, int, cell, cons, chunk, range, vec_seq, Values, ◌&◌, list, Term}
 use Rattle.seq_plan.specs.Plan.{give}
-use Rattle.seq_plan.specs.Nodes.{first_of, rest_of, holds, now, asks_for, found}
+use Rattle.seq_plan.specs.Nodes.{first_of, rest_of, chunk_of, holds, now, asks_for, found}
 use Rattle.seq_plan.specs.Lists.{list_of}
 use Rattle.seq_plan.specs.Stages.{gathers, is_transducer, stages_of, fresh, standing, enter, complete}
 use Rattle.xf_stages.specs.Table.{replaced}
 use Rattle.seq_meaning.specs.Counts.{IsIn}
 use Rattle.seq_meaning.specs.Evaluates.{term_plan}
-use Rattle.seq_table.specs.World.{World, Seen, cut, done, ◌▸◌, script_in, Comes, CallTo, Begins}
+use Rattle.seq_table.specs.Table.{chunk_size}
+use Rattle.seq_table.specs.World.{SeqTo, World, Seen, cut, done, ◌▸◌, script_in, Comes, CallTo, Begins}
 
 -- elements before others
 abbrev pub ◌▸▸◌ : {C : Type 0} → List (Value C) → Seen C → Seen C
@@ -61,6 +62,13 @@ pub data Grouped {C : Type 0} (n : ℤ) : Seen C → Seen C → Type 0 where
 pub data Repeated {C : Type 0} (x : Value C) : Seen C → Type 0 where
   repeated_cut : Repeated x cut
   repeated_more : {l : Seen C} → Repeated x l → Repeated x (x ▸ l)
+
+-- a node that has an element
+pub data IsSound {C : Type 0} : Value C → Type 0 where
+  sound_cons : {x : Value C} {xs : Values C} {r : Value C} → IsSound (cons (x & xs) r)
+  sound_chunk : {x : Value C} {xs : Values C} {r : Value C} → IsSound (chunk (x & xs) r)
+  sound_range : {from at end : ℤ} → int_lt at end ≡ true → IsSound (range from at end)
+  sound_vec_seq : {xs : Values C} {at : ℕ} → nat_lt at (length (list xs)) ≡ true → IsSound (vec_seq xs at)
 
 module _ {C : Type 0} (w : World C) where
   -- the elements of each of the collections
@@ -187,8 +195,20 @@ module _ {C : Type 0} (w : World C) where
       nothing_read : InList t cut
       so_far : {l l' : Seen C} → Meant t l' → CutOf l l' → InList t l
 
+  -- what the seqs of a collection come to, of the collection itself, of a rest, and of what is behind a chunk
+  pub data Reaches : Value C → Value C → Type 0 where
+    reach_seq : {c s : Value C} → SeqTo w c s → ¬ (s ≡ nil) → Reaches c s
+    reach_rest : {c s t : Value C} → SeqTo w c s → ¬ (s ≡ nil) → Reaches (rest_of s) t → Reaches c t
+    reach_behind : {c s r t : Value C} {xs : List (Value C)} → SeqTo w c s → chunk_of chunk_size s ≡ Some (xs, r) → Reaches r t → Reaches c t
+
+  -- each node that reading the collection comes to has an element
+  abbrev pub AllSound : Value C → Type 0
+  AllSound c = (s : Value C) → Reaches c s → IsSound s
+
   -- the terms of which it is shown that what they give begins as their list
   pub data HasList : Term C → Type 0 where
+    has_map : {f c : Value C} → AllSound c → HasList (record { op = O.Map; args = f ∷ c ∷ [] })
+    has_filter : {p c : Value C} → AllSound c → HasList (record { op = O.Filter; args = p ∷ c ∷ [] })
     has_take : {n : ℤ} {c : Value C} → HasList (record { op = O.Take; args = int n ∷ c ∷ [] })
     has_take_while : {p c : Value C} → HasList (record { op = O.TakeWhile; args = p ∷ c ∷ [] })
     has_drop : {n : ℤ} {c : Value C} → HasList (record { op = O.Drop; args = int n ∷ c ∷ [] })
