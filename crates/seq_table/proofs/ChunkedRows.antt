@@ -108,7 +108,7 @@ module _ {C : Type 0} (w : World C) where
   same_pair e = cc
 
   -- a chunked seq begins with its chunk
-  chunk_before : {s : Value C} → IsSound s → {xs : List (Value C)} {r : Value C} {l : Seen C} → chunk_of 32 s ≡ Some (xs, r) → Begins w r l → Begins w s (xs ▸▸ l)
+  pub chunk_before : {s : Value C} → IsSound s → {xs : List (Value C)} {r : Value C} {l : Seen C} → chunk_of 32 s ≡ Some (xs, r) → Begins w r l → Begins w s (xs ▸▸ l)
   chunk_before sound_cons e b = absurd cc
   chunk_before (sound_chunk {x = x} {xs = ys} {r = r'}) {xs = xs} {r = r} {l = l} e b =
       let p : (x ∷ list ys, r') ≡ (xs, r) = same_pair e in
@@ -121,7 +121,7 @@ module _ {C : Type 0} (w : World C) where
       subst (λ z. Begins w (vec_seq ys at) (z ▸▸ l)) (ap (λ z. z.0) p) (vector_before w ys at h (subst (λ z. Begins w z l) (sym (ap (λ z. z.1) p)) b))
 
   -- what a chunk of answers leads to
-  items_at : {defs : List (Value C)} {t : Term C} (ys zs : List (Value C)) {v : Value C} → At w defs t (zs ++ ys) v → At w defs t zs (with_items (values ys) v)
+  pub items_at : {defs : List (Value C)} {t : Term C} (ys zs : List (Value C)) {v : Value C} → At w defs t (zs ++ ys) v → At w defs t zs (with_items (values ys) v)
   items_at {defs = ds} {t = t} [] zs {v = v} a = subst (λ l. At w ds t l v) (append-nil zs) a
   items_at {defs = ds} {t = t} (y ∷ ys) zs {v = v} a = shows refl (λ e. cc) (items_at ys (zs ++ y ∷ []) (subst (λ l. At w ds t l v) (sym (append_assoc zs (y ∷ []) ys)) a))
 

@@ -41,3 +41,4 @@ pub mod ListsOf
 pub mod Counted
 pub mod DropRows
 pub mod ChunkedRows
+pub mod JoinedRows

@@ -205,10 +205,20 @@ module _ {C : Type 0} (w : World C) where
   abbrev pub AllSound : Value C → Type 0
   AllSound c = (s : Value C) → Reaches c s → IsSound s
 
+  pub data AllSoundEach : List (Value C) → Type 0 where
+    all_sound_none : AllSoundEach []
+    all_sound_more : {c : Value C} {cs : List (Value C)} → AllSound c → AllSoundEach cs → AllSoundEach (c ∷ cs)
+
+  -- so does each answer of f
+  abbrev pub SoundAnswers : Value C → Type 0
+  SoundAnswers f = (defs : List (Value C)) (x y : Value C) → CallTo w defs f (x ∷ []) y → AllSound y
+
   -- the terms of which it is shown that what they give begins as their list
   pub data HasList : Term C → Type 0 where
     has_map : {f c : Value C} → AllSound c → HasList (record { op = O.Map; args = f ∷ c ∷ [] })
     has_filter : {p c : Value C} → AllSound c → HasList (record { op = O.Filter; args = p ∷ c ∷ [] })
+    has_concat : {cs : List (Value C)} → AllSoundEach cs → HasList (record { op = O.Concat; args = cs })
+    has_mapcat : {f c : Value C} → SoundAnswers f → HasList (record { op = O.Mapcat; args = f ∷ c ∷ [] })
     has_take : {n : ℤ} {c : Value C} → HasList (record { op = O.Take; args = int n ∷ c ∷ [] })
     has_take_while : {p c : Value C} → HasList (record { op = O.TakeWhile; args = p ∷ c ∷ [] })
     has_drop : {n : ℤ} {c : Value C} → HasList (record { op = O.Drop; args = int n ∷ c ∷ [] })
@@ -222,6 +232,7 @@ module _ {C : Type 0} (w : World C) where
     stops : {ys : List (Value C)} {v : Value C} → found v ≡ now nil → Meant defs t (ys ▸▸ done) → At defs t ys v
     shows : {ys : List (Value C)} {v s : Value C} → found v ≡ now s → ¬ (s ≡ nil) → At defs t (ys ++ first_of s ∷ []) (rest_of s) → At defs t ys v
     leads : {ys es : List (Value C)} {v : Value C} {c : C} {kind : Kind} {u : Term C} → found v ≡ asks_for c → w.IsPart c kind es u → HasList u → ((l : Seen C) → Meant es u l → Meant defs t (ys ▸▸ l)) → At defs t ys v
+    joins : {ys es fs : List (Value C)} {v d : Value C} {k m : C} {kind kind' : Kind} {u : Term C} → found v ≡ asks_for k → w.IsPart k kind es (record { op = O.Concat; args = d ∷ cell m ∷ [] }) → AllSound d → w.IsPart m kind' fs u → HasList u → ((l l' : Seen C) → Begins w d l → Meant fs u l' → Meant defs t (ys ▸▸ followed l l')) → At defs t ys v
     is_rest : {ys : List (Value C)} {v : Value C} → ((l : Seen C) → Begins w v l → Meant defs t (ys ▸▸ l)) → At defs t ys v
 
   -- a cell gives what its term comes to
