@@ -42,3 +42,6 @@ pub mod Counted
 pub mod DropRows
 pub mod ChunkedRows
 pub mod JoinedRows
+pub mod AlikeMore
+pub mod SameCells
+pub mod OneCall

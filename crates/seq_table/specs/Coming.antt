@@ -6,8 +6,10 @@ use Rattle.seq_plan.specs.Plan.{give}
 use Rattle.fold_rules.specs.Table.{fold_items}
 use Rattle.seq_meaning.specs.Names.{Name}
 use Rattle.seq_meaning.specs.Gives.{Task, of_term, work, task_plan, Of, Gives}
+use Rattle.seq_plan.specs.Alike.{Like}
+use Rattle.seq_table.specs.Same.{Same}
 use Rattle.seq_table.specs.Table.{language}
-use Rattle.seq_table.specs.World.{names_world, Seen, Begins, Comes}
+use Rattle.seq_table.specs.World.{names_world, Seen, Begins, Comes, CallTo}
 use Rattle.seq_table.specs.Lists.{HasList, InList}
 use Rattle.seq_table.specs.FoldTrees.{FoldTree}
 use Rattle.seq_table.specs.Outputs.{Ending, Ran}
@@ -27,3 +29,7 @@ FoldIsTree = (processors : ℕ) (program : Program) (limit : ℕ) (defs : List (
 -- What an evaluation of a term gives begins as the list that the term stands for, for the terms of `HasList`. Each part that is read on the way gives a value.
 abbrev pub ListsOfTerms : Type 0
 ListsOfTerms = (processors : ℕ) (program : Program) (limit : ℕ) (e : Name) (defs : List (Value Name)) (t : Term Name) (v : Value Name) (l : Seen Name) → HasList (names_world (language processors) program limit) t → Of (language processors) program limit e (work defs (of_term t)) → Gives (language processors) program limit e (gave v) → Begins (names_world (language processors) program limit) v l → InList (names_world (language processors) program limit) defs t l
+
+-- What a call comes to is one value but for names, wherever it is run.
+abbrev pub OneCall : Type 0
+OneCall = (processors : ℕ) (program : Program) (limit : ℕ) (defs : List (Value Name)) (f : Value Name) (xs : List (Value Name)) (y z : Value Name) → CallTo (names_world (language processors) program limit) defs f xs y → CallTo (names_world (language processors) program limit) defs f xs z → Like (Same (language processors) program limit) y z

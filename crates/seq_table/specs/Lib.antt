@@ -11,3 +11,4 @@ pub mod FoldTrees
 pub mod Written
 pub mod Coming
 pub mod Lists
+pub mod Same

@@ -2,7 +2,7 @@
 #![tactic(auto)]
 
 ghost use Rattle.seq_table.specs.Laws.{TableRenames};
-ghost use Rattle.seq_table.specs.Coming.{FoldIsTree, GivesWhatComes, ListsOfTerms, OneRun};
+ghost use Rattle.seq_table.specs.Coming.{FoldIsTree, GivesWhatComes, ListsOfTerms, OneCall, OneRun};
 ghost use Rattle.seq_table.specs.Worked.{FirstOfMap, FirstOfIterate, FailingChunk, NoneKept, SequeOfThree, FoldAsTree, CompletedGroups, TakeOfNone, PlainCall, RestAndNext, NeverAsked, NestedMapcat, GroupedSequence, LazyAndVector, NestedValue, PulledAhead, Dropped, JoinedOnce, InPlace, MadeScript};
 ghost use Rattle.seq_table.specs.Generated.{OneGenerated};
 ghost use Rattle.seq_table.specs.Written.{FirstOfMapWritten, NoneKeptWritten, FailingChunkWritten, MadeScriptWritten, MadeScriptAnswered};
@@ -25,6 +25,11 @@ pub fn law_fold_is_tree()
 /// What an evaluation of a term gives begins as the list that the term stands for.
 pub fn law_lists()
     ensures { ListsOfTerms }
+{}
+
+/// What a call comes to is one value but for names.
+pub fn law_one_call()
+    ensures { OneCall }
 {}
 
 /// A run of a program ends in one way, with one text.
