@@ -45,3 +45,4 @@ pub mod JoinedRows
 pub mod AlikeMore
 pub mod SameCells
 pub mod OneCall
+pub mod PlainAlike

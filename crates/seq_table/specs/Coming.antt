@@ -7,6 +7,7 @@ use Rattle.fold_rules.specs.Table.{fold_items}
 use Rattle.seq_meaning.specs.Names.{Name}
 use Rattle.seq_meaning.specs.Gives.{Task, of_term, work, task_plan, Of, Gives}
 use Rattle.seq_plan.specs.Alike.{Like}
+use Rattle.seq_table.specs.Plains.{AreAlike}
 use Rattle.seq_table.specs.Same.{Same}
 use Rattle.seq_table.specs.Table.{language}
 use Rattle.seq_table.specs.World.{names_world, Seen, Begins, Comes, CallTo}
@@ -33,3 +34,7 @@ ListsOfTerms = (processors : ℕ) (program : Program) (limit : ℕ) (e : Name) (
 -- What a call comes to is one value but for names, wherever it is run.
 abbrev pub OneCall : Type 0
 OneCall = (processors : ℕ) (program : Program) (limit : ℕ) (defs : List (Value Name)) (f : Value Name) (xs : List (Value Name)) (y z : Value Name) → CallTo (names_world (language processors) program limit) defs f xs y → CallTo (names_world (language processors) program limit) defs f xs z → Like (Same (language processors) program limit) y z
+
+-- Values that are the same but for names are alike.
+abbrev pub LikeIsAlike : Type 0
+LikeIsAlike = (processors : ℕ) (program : Program) (limit : ℕ) (y z : Value Name) → Like (Same (language processors) program limit) y z → AreAlike (names_world (language processors) program limit) y z

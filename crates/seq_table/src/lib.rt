@@ -2,7 +2,7 @@
 #![tactic(auto)]
 
 ghost use Rattle.seq_table.specs.Laws.{TableRenames};
-ghost use Rattle.seq_table.specs.Coming.{FoldIsTree, GivesWhatComes, ListsOfTerms, OneCall, OneRun};
+ghost use Rattle.seq_table.specs.Coming.{FoldIsTree, GivesWhatComes, LikeIsAlike, ListsOfTerms, OneCall, OneRun};
 ghost use Rattle.seq_table.specs.Worked.{FirstOfMap, FirstOfIterate, FailingChunk, NoneKept, SequeOfThree, FoldAsTree, CompletedGroups, TakeOfNone, PlainCall, RestAndNext, NeverAsked, NestedMapcat, GroupedSequence, LazyAndVector, NestedValue, PulledAhead, Dropped, JoinedOnce, InPlace, MadeScript};
 ghost use Rattle.seq_table.specs.Generated.{OneGenerated};
 ghost use Rattle.seq_table.specs.Written.{FirstOfMapWritten, NoneKeptWritten, FailingChunkWritten, MadeScriptWritten, MadeScriptAnswered};
@@ -30,6 +30,11 @@ pub fn law_lists()
 /// What a call comes to is one value but for names.
 pub fn law_one_call()
     ensures { OneCall }
+{}
+
+/// Values that are the same but for names are alike.
+pub fn law_like_is_alike()
+    ensures { LikeIsAlike }
 {}
 
 /// A run of a program ends in one way, with one text.
