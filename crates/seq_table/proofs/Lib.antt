@@ -46,3 +46,4 @@ pub mod AlikeMore
 pub mod SameCells
 pub mod OneCall
 pub mod PlainAlike
+pub mod OneList

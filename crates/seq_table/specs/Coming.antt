@@ -8,6 +8,7 @@ use Rattle.seq_meaning.specs.Names.{Name}
 use Rattle.seq_meaning.specs.Gives.{Task, of_term, work, task_plan, Of, Gives}
 use Rattle.seq_plan.specs.Alike.{Like}
 use Rattle.seq_table.specs.Plains.{AreAlike}
+use Rattle.seq_table.specs.Agree.{Agree}
 use Rattle.seq_table.specs.Same.{Same}
 use Rattle.seq_table.specs.Table.{language}
 use Rattle.seq_table.specs.World.{names_world, Seen, Begins, Comes, CallTo}
@@ -38,3 +39,7 @@ OneCall = (processors : ℕ) (program : Program) (limit : ℕ) (defs : List (Val
 -- Values that are the same but for names are alike.
 abbrev pub LikeIsAlike : Type 0
 LikeIsAlike = (processors : ℕ) (program : Program) (limit : ℕ) (y z : Value Name) → Like (Same (language processors) program limit) y z → AreAlike (names_world (language processors) program limit) y z
+
+-- The list of such a term is determined, as far as it is read.
+abbrev pub OneList : Type 0
+OneList = (processors : ℕ) (program : Program) (limit : ℕ) (defs : List (Value Name)) (t : Term Name) (l m : Seen Name) → HasList (names_world (language processors) program limit) t → InList (names_world (language processors) program limit) defs t l → InList (names_world (language processors) program limit) defs t m → Agree (Same (language processors) program limit) l m

@@ -12,3 +12,4 @@ pub mod Written
 pub mod Coming
 pub mod Lists
 pub mod Same
+pub mod Agree

@@ -2,7 +2,7 @@
 #![tactic(auto)]
 
 ghost use Rattle.seq_table.specs.Laws.{TableRenames};
-ghost use Rattle.seq_table.specs.Coming.{FoldIsTree, GivesWhatComes, LikeIsAlike, ListsOfTerms, OneCall, OneRun};
+ghost use Rattle.seq_table.specs.Coming.{FoldIsTree, GivesWhatComes, LikeIsAlike, ListsOfTerms, OneCall, OneList, OneRun};
 ghost use Rattle.seq_table.specs.Worked.{FirstOfMap, FirstOfIterate, FailingChunk, NoneKept, SequeOfThree, FoldAsTree, CompletedGroups, TakeOfNone, PlainCall, RestAndNext, NeverAsked, NestedMapcat, GroupedSequence, LazyAndVector, NestedValue, PulledAhead, Dropped, JoinedOnce, InPlace, MadeScript};
 ghost use Rattle.seq_table.specs.Generated.{OneGenerated};
 ghost use Rattle.seq_table.specs.Written.{FirstOfMapWritten, NoneKeptWritten, FailingChunkWritten, MadeScriptWritten, MadeScriptAnswered};
@@ -35,6 +35,11 @@ pub fn law_one_call()
 /// Values that are the same but for names are alike.
 pub fn law_like_is_alike()
     ensures { LikeIsAlike }
+{}
+
+/// The list of a term is determined.
+pub fn law_one_list()
+    ensures { OneList }
 {}
 
 /// A run of a program ends in one way, with one text.
