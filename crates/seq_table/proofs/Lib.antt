@@ -47,3 +47,4 @@ pub mod SameCells
 pub mod OneCall
 pub mod PlainAlike
 pub mod OneList
+pub mod MoreRows

@@ -12,7 +12,8 @@ use Rattle.seq_table.specs.Table.{language}
 use Rattle.seq_table.specs.World.{script_in, Comes, World, names_world, Seen, cut, done, ◌▸◌, Begins, not_read, asked, at_end, element}
 use Rattle.seq_table.proofs.ChunkedRows.{map_row, filter_row}
 use Rattle.seq_table.proofs.JoinedRows.{joined_at, concat_row, mapcat_row}
-use Rattle.seq_table.specs.Lists.{joined_cut, spread_cut, of_concat, of_mapcat, has_concat, has_mapcat, joins, each_cut, sifted_cut, of_map, of_filter, has_map, has_filter, ◌▸▸◌, CutOf, cut_here, cut_done, cut_later, taken_cut, while_cut, dropped_cut, until_cut, of_drop, of_drop_while, has_drop, has_drop_while, iterated_cut, repeated_cut, cycled_cut, Meant, of_take, of_take_while, of_next, of_repeat, of_cycle, InList, nothing_read, so_far, HasList, has_take, has_take_while, has_next, has_repeat, has_cycle, At, stops, shows, leads, is_rest, Opens, RowOf}
+use Rattle.seq_table.proofs.MoreRows.{keep_row, near_row}
+use Rattle.seq_table.specs.Lists.{kept_cut, of_keep, of_near, has_keep, has_near, joined_cut, spread_cut, of_concat, of_mapcat, has_concat, has_mapcat, joins, each_cut, sifted_cut, of_map, of_filter, has_map, has_filter, ◌▸▸◌, CutOf, cut_here, cut_done, cut_later, taken_cut, while_cut, dropped_cut, until_cut, of_drop, of_drop_while, has_drop, has_drop_while, iterated_cut, repeated_cut, cycled_cut, Meant, of_take, of_take_while, of_next, of_repeat, of_cycle, InList, nothing_read, so_far, HasList, has_take, has_take_while, has_next, has_repeat, has_cycle, At, stops, shows, leads, is_rest, Opens, RowOf}
 use Rattle.seq_table.proofs.Replay.{comes_of, open_part}
 use Rattle.seq_table.proofs.DropRows.{drop_row, drop_while_row}
 use Rattle.seq_table.proofs.ListRows.{take_row, take_while_row, next_row, repeat_row, cycle_row}
@@ -46,6 +47,8 @@ module _ {C : Type 0} (w : World C) where
   begun (has_filter s) = of_filter not_read sifted_cut
   begun (has_concat s) = of_concat joined_cut
   begun (has_mapcat s) = of_mapcat not_read spread_cut
+  begun (has_keep s) = of_keep not_read kept_cut
+  begun has_near = of_near not_read
   begun has_take = of_take not_read taken_cut
   begun has_take_while = of_take_while not_read while_cut
   begun has_drop = of_drop not_read dropped_cut
@@ -111,6 +114,8 @@ module _ (processors : ℕ) (program : Program) (limit : ℕ) where
   row t (has_filter {p = p} {c = c} s) defs v d = filter_row here defs p c s d
   row t (has_concat {cs = cs} s) defs v d = concat_row here cs s defs d
   row t (has_mapcat {f = f} {c = c} s) defs v d = mapcat_row here f c s defs d
+  row t (has_keep {f = f} {c = c} s) defs v d = keep_row here defs f c s d
+  row t (has_near {c = c} {a = a}) defs v d = near_row here defs c a d
   row t (has_take {n = n} {c = c}) defs v d = take_row here n c defs d
   row t (has_take_while {p = p} {c = c}) defs v d = take_while_row here p c defs d
   row t (has_drop {n = n} {c = c}) defs v d = drop_row processors program limit defs n c d

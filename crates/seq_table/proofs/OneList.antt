@@ -11,7 +11,7 @@ use Rattle.seq_meaning.specs.Names.{Name}
 use Rattle.seq_meaning.proofs.AlikeWalk.{like-called}
 use Rattle.seq_meaning.proofs.Twinned.{like_refl, like_list_refl}
 use Rattle.seq_table.specs.World.{World, names_world, Seen, CallTo, Begins, not_read, asked, at_end, element}
-use Rattle.seq_table.specs.Lists.{followed, CutOf, cut_here, cut_done, cut_later, Each, each_cut, each_done, each_more, Iterated, iterated_cut, iterated_more, Taken, taken_all, taken_cut, taken_done, taken_more, TakenWhile, while_cut, while_done, while_in, while_out, Sifted, sifted_cut, sifted_done, sifted_in, sifted_out, Dropped, dropped_cut, dropped_none, dropped_done, dropped_more, DroppedWhile, until_cut, until_done, until_in, until_out, Joined, joined_cut, joined_done, joined_more, Spread, spread_cut, spread_done, spread_more, Repeated, repeated_cut, repeated_more, Cycled, cycled_cut, cycled_more, cycled_again, cycled_none, Meant, of_map, of_next, of_take, of_take_while, of_filter, of_concat, of_mapcat, of_drop, of_drop_while, of_repeat, of_cycle, HasList, has_map, has_filter, has_mapcat, has_concat, has_take, has_take_while, has_drop, has_drop_while, has_next, has_repeat, has_cycle, InList, nothing_read, so_far}
+use Rattle.seq_table.specs.Lists.{Kept, kept_cut, kept_done, kept_in, kept_out, of_keep, of_near, has_keep, has_near, followed, CutOf, cut_here, cut_done, cut_later, Each, each_cut, each_done, each_more, Iterated, iterated_cut, iterated_more, Taken, taken_all, taken_cut, taken_done, taken_more, TakenWhile, while_cut, while_done, while_in, while_out, Sifted, sifted_cut, sifted_done, sifted_in, sifted_out, Dropped, dropped_cut, dropped_none, dropped_done, dropped_more, DroppedWhile, until_cut, until_done, until_in, until_out, Joined, joined_cut, joined_done, joined_more, Spread, spread_cut, spread_done, spread_more, Repeated, repeated_cut, repeated_more, Cycled, cycled_cut, cycled_more, cycled_again, cycled_none, Meant, of_map, of_next, of_take, of_take_while, of_filter, of_concat, of_mapcat, of_drop, of_drop_while, of_repeat, of_cycle, HasList, has_map, has_filter, has_mapcat, has_concat, has_take, has_take_while, has_drop, has_drop_while, has_next, has_repeat, has_cycle, InList, nothing_read, so_far}
 use Rattle.seq_table.specs.Same.{same_cell, Same}
 use Rattle.seq_table.specs.Agree.{Agree, first_cut, second_cut, both_done, both_more}
 use Rattle.seq_table.proofs.SameCells.{shows_alike}
@@ -94,6 +94,19 @@ module _ (rules : Rules Name) (program : Program) (limit : ℕ) (renames : (R : 
     sifted_agree sifted_done (sifted_out c n e) a = elim a [ ]
     sifted_agree (sifted_in c n e) sifted_done a = elim a [ ]
     sifted_agree (sifted_out c n e) sifted_done a = elim a [ ]
+
+    kept_agree : {l l' m m' : Seen Name} → Kept w ds f l m → Kept w ds f l' m' → Agree S l l' → Agree S m m'
+    kept_agree kept_cut e' a = first_cut
+    kept_agree (kept_in c n e) (kept_in c' n' e') (both_more x a) = both_more (call_like c c' x) (kept_agree e e' a)
+    kept_agree (kept_out c e) (kept_out c' e') (both_more x a) = kept_agree e e' a
+    kept_agree (kept_in c n e) (kept_out c' e') (both_more x a) = absurd (n (nil_left rules program limit renames (call_like c c' x)))
+    kept_agree (kept_out c e) (kept_in c' n e') (both_more x a) = absurd (n (nil_only rules program limit renames (call_like c c' x)))
+    kept_agree e kept_cut a = second_cut
+    kept_agree kept_done kept_done a = both_done
+    kept_agree kept_done (kept_in c n e) a = elim a [ ]
+    kept_agree kept_done (kept_out c e) a = elim a [ ]
+    kept_agree (kept_in c n e) kept_done a = elim a [ ]
+    kept_agree (kept_out c e) kept_done a = elim a [ ]
 
     while_agree : {l l' m m' : Seen Name} → TakenWhile w ds f l m → TakenWhile w ds f l' m' → Agree S l l' → Agree S m m'
     while_agree while_cut e' a = first_cut
@@ -185,6 +198,8 @@ module _ (rules : Rules Name) (program : Program) (limit : ℕ) (renames : (R : 
   meant_agree {ds = ds} (has_filter s) (of_filter {p = f} {c = c} b e) (of_filter b' e') = sifted_agree ds f e e' (begins_agree b b' (itself c))
   meant_agree {ds = ds} (has_mapcat s) (of_mapcat {f = f} {c = c} b e) (of_mapcat b' e') = spread_agree ds f e e' (begins_agree b b' (itself c))
   meant_agree (has_concat s) (of_concat j) (of_concat j') = joined_agree j j'
+  meant_agree {ds = ds} (has_keep s) (of_keep {f = f} {c = c} b e) (of_keep b' e') = kept_agree ds f e e' (begins_agree b b' (itself c))
+  meant_agree has_near (of_near {c = c} b) (of_near b') = begins_agree b b' (itself c)
   meant_agree has_take (of_take {c = c} b e) (of_take b' e') = taken_agree e e' (begins_agree b b' (itself c))
   meant_agree {ds = ds} has_take_while (of_take_while {p = f} {c = c} b e) (of_take_while b' e') = while_agree ds f e e' (begins_agree b b' (itself c))
   meant_agree has_drop (of_drop {c = c} b e) (of_drop b' e') = dropped_agree e e' (begins_agree b b' (itself c))

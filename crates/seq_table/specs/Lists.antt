@@ -217,6 +217,8 @@ module _ {C : Type 0} (w : World C) where
   pub data HasList : Term C → Type 0 where
     has_map : {f c : Value C} → AllSound c → HasList (record { op = O.Map; args = f ∷ c ∷ [] })
     has_filter : {p c : Value C} → AllSound c → HasList (record { op = O.Filter; args = p ∷ c ∷ [] })
+    has_keep : {f c : Value C} → AllSound c → HasList (record { op = O.Keep; args = f ∷ c ∷ [] })
+    has_near : {c a : Value C} → HasList (record { op = O.Near; args = c ∷ a ∷ [] })
     has_concat : {cs : List (Value C)} → AllSoundEach cs → HasList (record { op = O.Concat; args = cs })
     has_mapcat : {f c : Value C} → SoundAnswers f → HasList (record { op = O.Mapcat; args = f ∷ c ∷ [] })
     has_take : {n : ℤ} {c : Value C} → HasList (record { op = O.Take; args = int n ∷ c ∷ [] })
