@@ -31,7 +31,7 @@ same_refl (form i) = same_number_refl i
 same_refl (part e i) = rw (same_refl e) (same_number_refl i)
 same_refl (retry e) = same_refl e
 
-abbrev is_among : Name → List Name → Bool
+abbrev pub is_among : Name → List Name → Bool
 is_among e [] = false
 is_among e (f ∷ l) = either (same_name e f) (is_among e l)
 
@@ -39,7 +39,7 @@ either_true : (b : Bool) → either b true ≡ true
 either_true true = refl
 either_true false = refl
 
-among_is : {e : Name} {l : List Name} → IsIn e l → is_among e l ≡ true
+pub among_is : {e : Name} {l : List Name} → IsIn e l → is_among e l ≡ true
 among_is {e = e} here = rw (same_refl e) refl
 among_is (there i) = rw (among_is i) (either_true _)
 

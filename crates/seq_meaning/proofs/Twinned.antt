@@ -60,7 +60,7 @@ module _ (rules : Rules Name) (program : Program) (limit : ℕ) where
   like-run R r e f hc (like_work d t) h = like-walk R (like_script {functions = program.functions} {bodies = program.bodies} r d) (λ j. part e j) (λ j. part f j) hc limit (like-task r d t) 1 _ _ (like-in_order h)
 
   -- a make of a like run
-  like_make_at : {R : Name → Name → Type 0} {ms ns : List (Made Name)} → LikeMakes R ms ns → (j : ℕ) (kind : Kind) (t : Term Name) → slice_get ms j ≡ Some (made kind t) → (u : Term Name) × (slice_get ns j ≡ Some (made kind u)) × LikeTerm R t u
+  pub like_make_at : {R : Name → Name → Type 0} {ms ns : List (Made Name)} → LikeMakes R ms ns → (j : ℕ) (kind : Kind) (t : Term Name) → slice_get ms j ≡ Some (made kind t) → (u : Term Name) × (slice_get ns j ≡ Some (made kind u)) × LikeTerm R t u
   like_make_at like_no_make j kind t p = absurd cc
   like_make_at {R} (like_make_then (like_made {kind = k} {t = t'} {u = u} h) hs) zero kind t p =
       let q : k ≡ kind = cc in
@@ -68,22 +68,22 @@ module _ (rules : Rules Name) (program : Program) (limit : ℕ) where
       (u, ap (λ x. Some (made x u)) q, subst (λ x. LikeTerm R x u) r h)
   like_make_at (like_make_then h hs) (suc j) kind t p = like_make_at hs j kind t p
 
-  like_makes_of : {R : Name → Name → Type 0} {r s : Run Name} → LikeRun R r s → LikeMakes R (makes_of r) (makes_of s)
+  pub like_makes_of : {R : Name → Name → Type 0} {r s : Run Name} → LikeRun R r s → LikeMakes R (makes_of r) (makes_of s)
   like_makes_of (like_needs c ms) = ms
   like_makes_of (like_ends o ms) = ms
   like_makes_of like_over = like_no_make
 
-  like_need : {R : Name → Name → Type 0} {r s : Run Name} {n : Name} {ms : List (Made Name)} → LikeRun R r s → r ≡ needs n ms → (m : Name) × (ns : List (Made Name)) × (s ≡ needs m ns) × R n m
+  pub like_need : {R : Name → Name → Type 0} {r s : Run Name} {n : Name} {ms : List (Made Name)} → LikeRun R r s → r ≡ needs n ms → (m : Name) × (ns : List (Made Name)) × (s ≡ needs m ns) × R n m
   like_need {R} {n = n} (like_needs {c = c} {d = d} {ns = ns} h hs) p = let q : c ≡ n = cc in (d, ns, refl, subst (λ x. R x d) q h)
   like_need (like_ends o ms) p = absurd cc
   like_need like_over p = absurd cc
 
-  like_end_at : {R : Name → Name → Type 0} {r s : Run Name} {o : Outcome Name} {ms : List (Made Name)} → LikeRun R r s → r ≡ ends o ms → (u : Outcome Name) × (ns : List (Made Name)) × (s ≡ ends u ns) × LikeOutcome R o u
+  pub like_end_at : {R : Name → Name → Type 0} {r s : Run Name} {o : Outcome Name} {ms : List (Made Name)} → LikeRun R r s → r ≡ ends o ms → (u : Outcome Name) × (ns : List (Made Name)) × (s ≡ ends u ns) × LikeOutcome R o u
   like_end_at (like_needs c ms) p = absurd cc
   like_end_at {R} {o = o} (like_ends {o = o'} {p = u} {ns = ns} h hs) p = let q : o' ≡ o = cc in (u, ns, refl, subst (λ x. LikeOutcome R x u) q h)
   like_end_at like_over p = absurd cc
 
-  like_error : {R : Name → Name → Type 0} {x : Thrown} {u : Outcome Name} → LikeOutcome R (threw x) u → u ≡ threw x
+  pub like_error : {R : Name → Name → Type 0} {x : Thrown} {u : Outcome Name} → LikeOutcome R (threw x) u → u ≡ threw x
   like_error like_threw = refl
 
   module _ (renames : Renames rules) (p q : Name) (w0 : Work) (at_p : (w : Work) → Of rules program limit p w → w ≡ w0) (at_q : Of rules program limit q w0) where

@@ -1,0 +1,680 @@
+-- Work ahead takes three elements, and one more for each that is asked, by computation.
+use Rattle.std.proofs.Common.{◌≡◌, ℕ, zero, suc, ◌<◌, pos, List, [], ◌∷◌, codes, refl, ap, Some, slice_get, arith}
+use Rattle.std.specs.Fmt.{digits}
+use Rattle.seq_values.specs.declared.words.Builtin.TheVariants as B
+use Rattle.seq_values.specs.declared.words.Kind.TheVariants.{Lazy, Future}
+use Rattle.seq_values.specs.declared.words.Op.TheVariants as O
+use Rattle.seq_values.specs.declared.words.Target.TheVariants as T
+use Rattle.seq_values.specs.Model.{nil, int, text, function, cell, cons, no_values, ◌&◌, Term, Outcome, gave}
+use Rattle.seq_meaning.specs.Walk.{Made, made, needs, ends, makes_of, walk}
+use Rattle.seq_meaning.specs.Names.{Name, form, part}
+use Rattle.seq_meaning.specs.Gives.{Work, work, of_form, of_term, run, Of, of_top, of_part, Part, part_of, True, no_answer, one_more, Gives, gives, Before, none_before, def_before, other_before, prn_none, ledger_none}
+use Rattle.seq_meaning.specs.Counts.{Demand, demands_form, demands_need, demands_future, IsIn, here, there}
+use Rattle.seq_meaning.proofs.Closing.{leads_on, none_leads, one_leads, no_failure}
+use Rattle.seq_meaning.proofs.Worked.{past, from_past}
+use Rattle.seq_table.specs.Table.{language}
+use Rattle.seq_table.specs.Worked.{Prints, Totals, seque_of_three_1, seque_of_three_2, seque_of_three_3, seque_of_three_4, seque_of_three_5, seque_of_three, SequeOfThree}
+use Rattle.seq_table.proofs.Rows.{Row, totals_of}
+use Rattle.seq_table.proofs.WorkedSequeOfThreeBelow.{part_1_2, part_2_2, part_1_1, part_2_1, part_1_2_1, part_2_2_1, part_2_2_2, part_1_1_1, part_1_2_1_1, part_1_1_1_1, part_1_2_1_1_1, part_1_1_1_1_1, part_1_2_1_1_1_1, gives_4_below, gives_4_exact}
+
+-- works, makes and answers
+abbrev work_4 : Work
+work_4 = work (cell part_1_2 ∷ cell part_2_2 ∷ nil ∷ []) (of_form seque_of_three_4)
+
+abbrev work_1 : Work
+work_1 = work [] (of_form seque_of_three_1)
+
+abbrev makes_1_2 : List (Made Name)
+makes_1_2 = made Lazy (record { op = O.Next; args = function (T.Builtin B.Inc) no_values ∷ int (pos 0) ∷ [] }) ∷ made Lazy (record { op = O.Map; args = function (T.Builtin B.Inc) no_values ∷ cons (int (pos 0) & no_values) (cell part_1_1) ∷ [] }) ∷ []
+
+abbrev work_2 : Work
+work_2 = work (cell part_1_2 ∷ []) (of_form seque_of_three_2)
+
+abbrev makes_2_2 : List (Made Name)
+makes_2_2 = made Future (record { op = O.Ahead; args = int (pos 3) ∷ cell part_1_2 ∷ [] }) ∷ made Lazy (record { op = O.Near; args = cell part_1_2 ∷ cell part_2_1 ∷ [] }) ∷ []
+
+abbrev work_2_2 : Work
+work_2_2 = work (cell part_1_2 ∷ []) (of_term (record { op = O.Near; args = cell part_1_2 ∷ cell part_2_1 ∷ [] }))
+
+abbrev work_1_2 : Work
+work_1_2 = work ([]) (of_term (record { op = O.Map; args = function (T.Builtin B.Inc) no_values ∷ cons (int (pos 0) & no_values) (cell part_1_1) ∷ [] }))
+
+abbrev makes_1_2_1 : List (Made Name)
+makes_1_2_1 = made Lazy (record { op = O.Map; args = function (T.Builtin B.Inc) no_values ∷ cell part_1_1 ∷ [] }) ∷ []
+
+abbrev answers_2_2_1 : List (Outcome Name)
+answers_2_2_1 = gave (cons (int (pos 1) & no_values) (cell part_1_2_1)) ∷ []
+
+abbrev makes_2_2_2 : List (Made Name)
+makes_2_2_2 = made Future (record { op = O.AheadOf; args = cell part_2_1 ∷ [] }) ∷ made Lazy (record { op = O.Near; args = cell part_1_2_1 ∷ cell part_2_2_1 ∷ [] }) ∷ []
+
+abbrev answers_4_1 : List (Outcome Name)
+answers_4_1 = gave (cons (int (pos 1) & no_values) (cell part_2_2_2)) ∷ []
+
+abbrev work_3 : Work
+work_3 = work (cell part_1_2 ∷ cell part_2_2 ∷ []) (of_form seque_of_three_3)
+
+abbrev work_2_1 : Work
+work_2_1 = work (cell part_1_2 ∷ []) (of_term (record { op = O.Ahead; args = int (pos 3) ∷ cell part_1_2 ∷ [] }))
+
+abbrev answers_2_1_1 : List (Outcome Name)
+answers_2_1_1 = gave (cons (int (pos 1) & no_values) (cell part_1_2_1)) ∷ []
+
+abbrev work_1_2_1 : Work
+work_1_2_1 = work ([]) (of_term (record { op = O.Map; args = function (T.Builtin B.Inc) no_values ∷ cell part_1_1 ∷ [] }))
+
+abbrev work_1_1 : Work
+work_1_1 = work ([]) (of_term (record { op = O.Next; args = function (T.Builtin B.Inc) no_values ∷ int (pos 0) ∷ [] }))
+
+abbrev makes_1_1_1 : List (Made Name)
+makes_1_1_1 = made Lazy (record { op = O.Next; args = function (T.Builtin B.Inc) no_values ∷ int (pos 1) ∷ [] }) ∷ []
+
+abbrev answers_1_2_1_1 : List (Outcome Name)
+answers_1_2_1_1 = gave (cons (int (pos 1) & no_values) (cell part_1_1_1)) ∷ []
+
+abbrev makes_1_2_1_1 : List (Made Name)
+makes_1_2_1_1 = made Lazy (record { op = O.Map; args = function (T.Builtin B.Inc) no_values ∷ cell part_1_1_1 ∷ [] }) ∷ []
+
+abbrev answers_2_1_2 : List (Outcome Name)
+answers_2_1_2 = gave (cons (int (pos 2) & no_values) (cell part_1_2_1_1)) ∷ answers_2_1_1
+
+abbrev work_1_2_1_1 : Work
+work_1_2_1_1 = work ([]) (of_term (record { op = O.Map; args = function (T.Builtin B.Inc) no_values ∷ cell part_1_1_1 ∷ [] }))
+
+abbrev work_1_1_1 : Work
+work_1_1_1 = work ([]) (of_term (record { op = O.Next; args = function (T.Builtin B.Inc) no_values ∷ int (pos 1) ∷ [] }))
+
+abbrev makes_1_1_1_1 : List (Made Name)
+makes_1_1_1_1 = made Lazy (record { op = O.Next; args = function (T.Builtin B.Inc) no_values ∷ int (pos 2) ∷ [] }) ∷ []
+
+abbrev answers_1_2_1_1_1 : List (Outcome Name)
+answers_1_2_1_1_1 = gave (cons (int (pos 2) & no_values) (cell part_1_1_1_1)) ∷ []
+
+abbrev makes_1_2_1_1_1 : List (Made Name)
+makes_1_2_1_1_1 = made Lazy (record { op = O.Map; args = function (T.Builtin B.Inc) no_values ∷ cell part_1_1_1_1 ∷ [] }) ∷ []
+
+abbrev answers_2_1_3 : List (Outcome Name)
+answers_2_1_3 = gave (cons (int (pos 3) & no_values) (cell part_1_2_1_1_1)) ∷ answers_2_1_2
+
+abbrev work_5 : Work
+work_5 = work (cell part_1_2 ∷ cell part_2_2 ∷ nil ∷ nil ∷ []) (of_form seque_of_three_5)
+
+abbrev work_2_2_1 : Work
+work_2_2_1 = work (cell part_1_2 ∷ []) (of_term (record { op = O.AheadOf; args = cell part_2_1 ∷ [] }))
+
+abbrev answers_2_2_1_1 : List (Outcome Name)
+answers_2_2_1_1 = gave (cell part_1_2_1_1_1) ∷ []
+
+abbrev work_1_2_1_1_1 : Work
+work_1_2_1_1_1 = work ([]) (of_term (record { op = O.Map; args = function (T.Builtin B.Inc) no_values ∷ cell part_1_1_1_1 ∷ [] }))
+
+abbrev work_1_1_1_1 : Work
+work_1_1_1_1 = work ([]) (of_term (record { op = O.Next; args = function (T.Builtin B.Inc) no_values ∷ int (pos 2) ∷ [] }))
+
+abbrev makes_1_1_1_1_1 : List (Made Name)
+makes_1_1_1_1_1 = made Lazy (record { op = O.Next; args = function (T.Builtin B.Inc) no_values ∷ int (pos 3) ∷ [] }) ∷ []
+
+abbrev answers_1_2_1_1_1_1 : List (Outcome Name)
+answers_1_2_1_1_1_1 = gave (cons (int (pos 3) & no_values) (cell part_1_1_1_1_1)) ∷ []
+
+abbrev makes_1_2_1_1_1_1 : List (Made Name)
+makes_1_2_1_1_1_1 = made Lazy (record { op = O.Map; args = function (T.Builtin B.Inc) no_values ∷ cell part_1_1_1_1_1 ∷ [] }) ∷ []
+
+abbrev answers_2_2_1_2 : List (Outcome Name)
+answers_2_2_1_2 = gave (cons (int (pos 4) & no_values) (cell part_1_2_1_1_1_1)) ∷ answers_2_2_1_1
+
+abbrev among_3 : List Name
+among_3 = (form 1) ∷ (form 2) ∷ (form 3) ∷ part_2_1 ∷ part_1_2 ∷ part_1_2_1 ∷ part_1_2_1_1 ∷ part_1_1 ∷ part_1_1_1 ∷ []
+
+abbrev among_5 : List Name
+among_5 = (form 1) ∷ (form 2) ∷ (form 3) ∷ (form 4) ∷ (form 5) ∷ part_2_1 ∷ part_2_2 ∷ part_1_2 ∷ part_1_2_1 ∷ part_1_2_1_1 ∷ part_2_2_1 ∷ part_1_1 ∷ part_1_1_1 ∷ part_1_2_1_1_1 ∷ part_1_1_1_1 ∷ []
+
+-- With 6 steps or more:
+module _ (n : ℕ) where
+  abbrev limit : ℕ
+  limit = past 6 n
+
+  abbrev OfHere : Name → Work → Type 0
+  OfHere e w = Of (language 4) seque_of_three limit e w
+
+  abbrev GivesHere : Name → Outcome Name → Type 0
+  GivesHere e o = Gives (language 4) seque_of_three limit e o
+
+  abbrev TrueHere : Name → List (Outcome Name) → Type 0
+  TrueHere e a = True (language 4) seque_of_three limit e a
+
+  before_0 : Before (language 4) seque_of_three limit 0 ([])
+  before_0 = none_before
+
+  of_1 : OfHere (form 1) work_1
+  of_1 = of_top before_0 refl
+
+  end_1 : run (language 4) seque_of_three limit (form 1) work_1 [] ≡ ends (gave (cell part_1_2)) makes_1_2
+  unfolding run walk digits
+  end_1 = refl
+
+  gives_1 : GivesHere (form 1) (gave (cell part_1_2))
+  gives_1 = gives of_1 (no_answer of_1) end_1
+
+  before_1 : Before (language 4) seque_of_three limit 1 (cell part_1_2 ∷ [])
+  before_1 = def_before before_0 refl gives_1 refl
+
+  of_2 : OfHere (form 2) work_2
+  of_2 = of_top before_1 refl
+
+  end_2 : run (language 4) seque_of_three limit (form 2) work_2 [] ≡ ends (gave (cell part_2_2)) makes_2_2
+  unfolding run walk digits
+  end_2 = refl
+
+  gives_2 : GivesHere (form 2) (gave (cell part_2_2))
+  gives_2 = gives of_2 (no_answer of_2) end_2
+
+  before_2 : Before (language 4) seque_of_three limit 2 (cell part_1_2 ∷ cell part_2_2 ∷ [])
+  before_2 = def_before before_1 refl gives_2 refl
+
+  before_3 : Before (language 4) seque_of_three limit 3 (cell part_1_2 ∷ cell part_2_2 ∷ nil ∷ [])
+  before_3 = other_before before_2 refl ledger_none refl
+
+  of_4 : OfHere (form 4) work_4
+  of_4 = of_top before_3 refl
+
+  needs_4_0 : run (language 4) seque_of_three limit (form 4) work_4 [] ≡ needs part_2_2 []
+  unfolding run walk digits
+  needs_4_0 = refl
+
+  is_2_2 : Part (language 4) seque_of_three limit part_2_2 Lazy work_2_2
+  is_2_2 = part_of {j = 1} of_2 (no_answer of_2) (ap (λ r. slice_get (makes_of r) 1) end_2)
+
+  of_2_2 : OfHere part_2_2 work_2_2
+  of_2_2 = of_part is_2_2
+
+  needs_2_2_0 : run (language 4) seque_of_three limit part_2_2 work_2_2 [] ≡ needs part_1_2 []
+  unfolding run walk digits
+  needs_2_2_0 = refl
+
+  is_1_2 : Part (language 4) seque_of_three limit part_1_2 Lazy work_1_2
+  is_1_2 = part_of {j = 1} of_1 (no_answer of_1) (ap (λ r. slice_get (makes_of r) 1) end_1)
+
+  of_1_2 : OfHere part_1_2 work_1_2
+  of_1_2 = of_part is_1_2
+
+  end_1_2 : run (language 4) seque_of_three limit part_1_2 work_1_2 [] ≡ ends (gave (cons (int (pos 1) & no_values) (cell part_1_2_1))) makes_1_2_1
+  unfolding run walk digits
+  end_1_2 = refl
+
+  gives_1_2 : GivesHere part_1_2 (gave (cons (int (pos 1) & no_values) (cell part_1_2_1)))
+  gives_1_2 = gives of_1_2 (no_answer of_1_2) end_1_2
+
+  abbrev true_2_2_1 : TrueHere part_2_2 answers_2_2_1
+  true_2_2_1 = one_more of_2_2 (no_answer of_2_2) needs_2_2_0 gives_1_2
+
+  end_2_2 : run (language 4) seque_of_three limit part_2_2 work_2_2 answers_2_2_1 ≡ ends (gave (cons (int (pos 1) & no_values) (cell part_2_2_2))) makes_2_2_2
+  unfolding run walk digits
+  end_2_2 = refl
+
+  gives_2_2 : GivesHere part_2_2 (gave (cons (int (pos 1) & no_values) (cell part_2_2_2)))
+  gives_2_2 = gives of_2_2 true_2_2_1 end_2_2
+
+  abbrev true_4_1 : TrueHere (form 4) answers_4_1
+  true_4_1 = one_more of_4 (no_answer of_4) needs_4_0 gives_2_2
+
+  end_4 : run (language 4) seque_of_three limit (form 4) work_4 answers_4_1 ≡ ends (gave (text (codes "1"))) []
+  unfolding run walk digits
+  end_4 = refl
+
+  gives_4 : GivesHere (form 4) (gave (text (codes "1")))
+  gives_4 = gives of_4 true_4_1 end_4
+
+  of_3 : OfHere (form 3) work_3
+  of_3 = of_top before_2 refl
+
+  end_3 : run (language 4) seque_of_three limit (form 3) work_3 [] ≡ ends (gave (nil)) []
+  unfolding run walk digits
+  end_3 = refl
+
+  gives_3 : GivesHere (form 3) (gave (nil))
+  gives_3 = gives of_3 (no_answer of_3) end_3
+
+  is_2_1 : Part (language 4) seque_of_three limit part_2_1 Future work_2_1
+  is_2_1 = part_of {j = 0} of_2 (no_answer of_2) (ap (λ r. slice_get (makes_of r) 0) end_2)
+
+  of_2_1 : OfHere part_2_1 work_2_1
+  of_2_1 = of_part is_2_1
+
+  needs_2_1_0 : run (language 4) seque_of_three limit part_2_1 work_2_1 [] ≡ needs part_1_2 []
+  unfolding run walk digits
+  needs_2_1_0 = refl
+
+  abbrev true_2_1_1 : TrueHere part_2_1 answers_2_1_1
+  true_2_1_1 = one_more of_2_1 (no_answer of_2_1) needs_2_1_0 gives_1_2
+
+  needs_2_1_1 : run (language 4) seque_of_three limit part_2_1 work_2_1 answers_2_1_1 ≡ needs part_1_2_1 []
+  unfolding run walk digits
+  needs_2_1_1 = refl
+
+  is_1_2_1 : Part (language 4) seque_of_three limit part_1_2_1 Lazy work_1_2_1
+  is_1_2_1 = part_of {j = 0} of_1_2 (no_answer of_1_2) (ap (λ r. slice_get (makes_of r) 0) end_1_2)
+
+  of_1_2_1 : OfHere part_1_2_1 work_1_2_1
+  of_1_2_1 = of_part is_1_2_1
+
+  needs_1_2_1_0 : run (language 4) seque_of_three limit part_1_2_1 work_1_2_1 [] ≡ needs part_1_1 []
+  unfolding run walk digits
+  needs_1_2_1_0 = refl
+
+  is_1_1 : Part (language 4) seque_of_three limit part_1_1 Lazy work_1_1
+  is_1_1 = part_of {j = 0} of_1 (no_answer of_1) (ap (λ r. slice_get (makes_of r) 0) end_1)
+
+  of_1_1 : OfHere part_1_1 work_1_1
+  of_1_1 = of_part is_1_1
+
+  end_1_1 : run (language 4) seque_of_three limit part_1_1 work_1_1 [] ≡ ends (gave (cons (int (pos 1) & no_values) (cell part_1_1_1))) makes_1_1_1
+  unfolding run walk digits
+  end_1_1 = refl
+
+  gives_1_1 : GivesHere part_1_1 (gave (cons (int (pos 1) & no_values) (cell part_1_1_1)))
+  gives_1_1 = gives of_1_1 (no_answer of_1_1) end_1_1
+
+  abbrev true_1_2_1_1 : TrueHere part_1_2_1 answers_1_2_1_1
+  true_1_2_1_1 = one_more of_1_2_1 (no_answer of_1_2_1) needs_1_2_1_0 gives_1_1
+
+  end_1_2_1 : run (language 4) seque_of_three limit part_1_2_1 work_1_2_1 answers_1_2_1_1 ≡ ends (gave (cons (int (pos 2) & no_values) (cell part_1_2_1_1))) makes_1_2_1_1
+  unfolding run walk digits
+  end_1_2_1 = refl
+
+  gives_1_2_1 : GivesHere part_1_2_1 (gave (cons (int (pos 2) & no_values) (cell part_1_2_1_1)))
+  gives_1_2_1 = gives of_1_2_1 true_1_2_1_1 end_1_2_1
+
+  abbrev true_2_1_2 : TrueHere part_2_1 answers_2_1_2
+  true_2_1_2 = one_more of_2_1 true_2_1_1 needs_2_1_1 gives_1_2_1
+
+  needs_2_1_2 : run (language 4) seque_of_three limit part_2_1 work_2_1 answers_2_1_2 ≡ needs part_1_2_1_1 []
+  unfolding run walk digits
+  needs_2_1_2 = refl
+
+  is_1_2_1_1 : Part (language 4) seque_of_three limit part_1_2_1_1 Lazy work_1_2_1_1
+  is_1_2_1_1 = part_of {j = 0} of_1_2_1 true_1_2_1_1 (ap (λ r. slice_get (makes_of r) 0) end_1_2_1)
+
+  of_1_2_1_1 : OfHere part_1_2_1_1 work_1_2_1_1
+  of_1_2_1_1 = of_part is_1_2_1_1
+
+  needs_1_2_1_1_0 : run (language 4) seque_of_three limit part_1_2_1_1 work_1_2_1_1 [] ≡ needs part_1_1_1 []
+  unfolding run walk digits
+  needs_1_2_1_1_0 = refl
+
+  is_1_1_1 : Part (language 4) seque_of_three limit part_1_1_1 Lazy work_1_1_1
+  is_1_1_1 = part_of {j = 0} of_1_1 (no_answer of_1_1) (ap (λ r. slice_get (makes_of r) 0) end_1_1)
+
+  of_1_1_1 : OfHere part_1_1_1 work_1_1_1
+  of_1_1_1 = of_part is_1_1_1
+
+  end_1_1_1 : run (language 4) seque_of_three limit part_1_1_1 work_1_1_1 [] ≡ ends (gave (cons (int (pos 2) & no_values) (cell part_1_1_1_1))) makes_1_1_1_1
+  unfolding run walk digits
+  end_1_1_1 = refl
+
+  gives_1_1_1 : GivesHere part_1_1_1 (gave (cons (int (pos 2) & no_values) (cell part_1_1_1_1)))
+  gives_1_1_1 = gives of_1_1_1 (no_answer of_1_1_1) end_1_1_1
+
+  abbrev true_1_2_1_1_1 : TrueHere part_1_2_1_1 answers_1_2_1_1_1
+  true_1_2_1_1_1 = one_more of_1_2_1_1 (no_answer of_1_2_1_1) needs_1_2_1_1_0 gives_1_1_1
+
+  end_1_2_1_1 : run (language 4) seque_of_three limit part_1_2_1_1 work_1_2_1_1 answers_1_2_1_1_1 ≡ ends (gave (cons (int (pos 3) & no_values) (cell part_1_2_1_1_1))) makes_1_2_1_1_1
+  unfolding run walk digits
+  end_1_2_1_1 = refl
+
+  gives_1_2_1_1 : GivesHere part_1_2_1_1 (gave (cons (int (pos 3) & no_values) (cell part_1_2_1_1_1)))
+  gives_1_2_1_1 = gives of_1_2_1_1 true_1_2_1_1_1 end_1_2_1_1
+
+  abbrev true_2_1_3 : TrueHere part_2_1 answers_2_1_3
+  true_2_1_3 = one_more of_2_1 true_2_1_2 needs_2_1_2 gives_1_2_1_1
+
+  end_2_1 : run (language 4) seque_of_three limit part_2_1 work_2_1 answers_2_1_3 ≡ ends (gave (cell part_1_2_1_1_1)) []
+  unfolding run walk digits
+  end_2_1 = by n
+    where
+      by : (n : ℕ) → run (language 4) seque_of_three (past 6 n) part_2_1 work_2_1 answers_2_1_3 ≡ ends (gave (cell part_1_2_1_1_1)) []
+      by zero = refl
+      by (suc n) = refl
+
+  gives_2_1 : GivesHere part_2_1 (gave (cell part_1_2_1_1_1))
+  gives_2_1 = gives of_2_1 true_2_1_3 end_2_1
+
+  demand_1_at_3 : Demand (language 4) seque_of_three limit 3 (form 1)
+  demand_1_at_3 = demands_form {i = 0} (omega arith)
+
+  demand_2_at_3 : Demand (language 4) seque_of_three limit 3 (form 2)
+  demand_2_at_3 = demands_form {i = 1} (omega arith)
+
+  demand_3_at_3 : Demand (language 4) seque_of_three limit 3 (form 3)
+  demand_3_at_3 = demands_form {i = 2} (omega arith)
+
+  demand_2_1_at_3 : Demand (language 4) seque_of_three limit 3 part_2_1
+  demand_2_1_at_3 = demands_future {j = 0} demand_2_at_3 of_2 (no_answer of_2) (ap (λ r. slice_get (makes_of r) 0) end_2)
+
+  demand_1_2_at_3 : Demand (language 4) seque_of_three limit 3 part_1_2
+  demand_1_2_at_3 = demands_need demand_2_1_at_3 of_2_1 (no_answer of_2_1) needs_2_1_0 (no_failure (language 4) seque_of_three limit 3 among_3 gives_1_2)
+
+  demand_1_2_1_at_3 : Demand (language 4) seque_of_three limit 3 part_1_2_1
+  demand_1_2_1_at_3 = demands_need demand_2_1_at_3 of_2_1 true_2_1_1 needs_2_1_1 (no_failure (language 4) seque_of_three limit 3 among_3 gives_1_2_1)
+
+  demand_1_2_1_1_at_3 : Demand (language 4) seque_of_three limit 3 part_1_2_1_1
+  demand_1_2_1_1_at_3 = demands_need demand_2_1_at_3 of_2_1 true_2_1_2 needs_2_1_2 (no_failure (language 4) seque_of_three limit 3 among_3 gives_1_2_1_1)
+
+  demand_1_1_at_3 : Demand (language 4) seque_of_three limit 3 part_1_1
+  demand_1_1_at_3 = demands_need demand_1_2_1_at_3 of_1_2_1 (no_answer of_1_2_1) needs_1_2_1_0 (no_failure (language 4) seque_of_three limit 3 among_3 gives_1_1)
+
+  demand_1_1_1_at_3 : Demand (language 4) seque_of_three limit 3 part_1_1_1
+  demand_1_1_1_at_3 = demands_need demand_1_2_1_1_at_3 of_1_2_1_1 (no_answer of_1_2_1_1) needs_1_2_1_1_0 (no_failure (language 4) seque_of_three limit 3 among_3 gives_1_1_1)
+
+  futures_1_at_3 : (j : ℕ) (t : Term Name) → slice_get makes_1_2 j ≡ Some (made Future t) → IsIn (part (form 1) (suc j)) among_3
+  futures_1_at_3 zero t p = absurd cc
+  futures_1_at_3 (suc zero) t p = absurd cc
+  futures_1_at_3 (suc (suc j)) t p = absurd cc
+
+  abbrev row_1_at_3 : Row (language 4) seque_of_three limit 3 among_3
+  row_1_at_3 = record { name = (form 1); followed = record { w = work_1; a = []; o = gave (cell part_1_2); ms = makes_1_2; of = of_1; answers = (no_answer of_1); end = end_1; asks = none_leads; futures = futures_1_at_3 }; demand = demand_1_at_3 }
+
+  futures_2_at_3 : (j : ℕ) (t : Term Name) → slice_get makes_2_2 j ≡ Some (made Future t) → IsIn (part (form 2) (suc j)) among_3
+  futures_2_at_3 zero t p = (there (there (there here)))
+  futures_2_at_3 (suc zero) t p = absurd cc
+  futures_2_at_3 (suc (suc j)) t p = absurd cc
+
+  abbrev row_2_at_3 : Row (language 4) seque_of_three limit 3 among_3
+  row_2_at_3 = record { name = (form 2); followed = record { w = work_2; a = []; o = gave (cell part_2_2); ms = makes_2_2; of = of_2; answers = (no_answer of_2); end = end_2; asks = none_leads; futures = futures_2_at_3 }; demand = demand_2_at_3 }
+
+  futures_3_at_3 : (j : ℕ) (t : Term Name) → slice_get [] j ≡ Some (made Future t) → IsIn (part (form 3) (suc j)) among_3
+  futures_3_at_3 j t p = absurd cc
+
+  abbrev row_3_at_3 : Row (language 4) seque_of_three limit 3 among_3
+  row_3_at_3 = record { name = (form 3); followed = record { w = work_3; a = []; o = gave (nil); ms = []; of = of_3; answers = (no_answer of_3); end = end_3; asks = none_leads; futures = futures_3_at_3 }; demand = demand_3_at_3 }
+
+  futures_2_1_at_3 : (j : ℕ) (t : Term Name) → slice_get [] j ≡ Some (made Future t) → IsIn (part part_2_1 (suc j)) among_3
+  futures_2_1_at_3 j t p = absurd cc
+
+  abbrev row_2_1_at_3 : Row (language 4) seque_of_three limit 3 among_3
+  row_2_1_at_3 = record { name = part_2_1; followed = record { w = work_2_1; a = answers_2_1_3; o = gave (cell part_1_2_1_1_1); ms = []; of = of_2_1; answers = true_2_1_3; end = end_2_1; asks = (one_leads (leads_on (no_failure (language 4) seque_of_three limit 3 among_3 gives_1_2_1_1) (there (there (there (there (there (there here))))))) (one_leads (leads_on (no_failure (language 4) seque_of_three limit 3 among_3 gives_1_2_1) (there (there (there (there (there here)))))) (one_leads (leads_on (no_failure (language 4) seque_of_three limit 3 among_3 gives_1_2) (there (there (there (there here))))) none_leads))); futures = futures_2_1_at_3 }; demand = demand_2_1_at_3 }
+
+  futures_1_2_at_3 : (j : ℕ) (t : Term Name) → slice_get makes_1_2_1 j ≡ Some (made Future t) → IsIn (part part_1_2 (suc j)) among_3
+  futures_1_2_at_3 zero t p = absurd cc
+  futures_1_2_at_3 (suc j) t p = absurd cc
+
+  abbrev row_1_2_at_3 : Row (language 4) seque_of_three limit 3 among_3
+  row_1_2_at_3 = record { name = part_1_2; followed = record { w = work_1_2; a = []; o = gave (cons (int (pos 1) & no_values) (cell part_1_2_1)); ms = makes_1_2_1; of = of_1_2; answers = (no_answer of_1_2); end = end_1_2; asks = none_leads; futures = futures_1_2_at_3 }; demand = demand_1_2_at_3 }
+
+  futures_1_2_1_at_3 : (j : ℕ) (t : Term Name) → slice_get makes_1_2_1_1 j ≡ Some (made Future t) → IsIn (part part_1_2_1 (suc j)) among_3
+  futures_1_2_1_at_3 zero t p = absurd cc
+  futures_1_2_1_at_3 (suc j) t p = absurd cc
+
+  abbrev row_1_2_1_at_3 : Row (language 4) seque_of_three limit 3 among_3
+  row_1_2_1_at_3 = record { name = part_1_2_1; followed = record { w = work_1_2_1; a = answers_1_2_1_1; o = gave (cons (int (pos 2) & no_values) (cell part_1_2_1_1)); ms = makes_1_2_1_1; of = of_1_2_1; answers = true_1_2_1_1; end = end_1_2_1; asks = (one_leads (leads_on (no_failure (language 4) seque_of_three limit 3 among_3 gives_1_1) (there (there (there (there (there (there (there here)))))))) none_leads); futures = futures_1_2_1_at_3 }; demand = demand_1_2_1_at_3 }
+
+  futures_1_2_1_1_at_3 : (j : ℕ) (t : Term Name) → slice_get makes_1_2_1_1_1 j ≡ Some (made Future t) → IsIn (part part_1_2_1_1 (suc j)) among_3
+  futures_1_2_1_1_at_3 zero t p = absurd cc
+  futures_1_2_1_1_at_3 (suc j) t p = absurd cc
+
+  abbrev row_1_2_1_1_at_3 : Row (language 4) seque_of_three limit 3 among_3
+  row_1_2_1_1_at_3 = record { name = part_1_2_1_1; followed = record { w = work_1_2_1_1; a = answers_1_2_1_1_1; o = gave (cons (int (pos 3) & no_values) (cell part_1_2_1_1_1)); ms = makes_1_2_1_1_1; of = of_1_2_1_1; answers = true_1_2_1_1_1; end = end_1_2_1_1; asks = (one_leads (leads_on (no_failure (language 4) seque_of_three limit 3 among_3 gives_1_1_1) (there (there (there (there (there (there (there (there here))))))))) none_leads); futures = futures_1_2_1_1_at_3 }; demand = demand_1_2_1_1_at_3 }
+
+  futures_1_1_at_3 : (j : ℕ) (t : Term Name) → slice_get makes_1_1_1 j ≡ Some (made Future t) → IsIn (part part_1_1 (suc j)) among_3
+  futures_1_1_at_3 zero t p = absurd cc
+  futures_1_1_at_3 (suc j) t p = absurd cc
+
+  abbrev row_1_1_at_3 : Row (language 4) seque_of_three limit 3 among_3
+  row_1_1_at_3 = record { name = part_1_1; followed = record { w = work_1_1; a = []; o = gave (cons (int (pos 1) & no_values) (cell part_1_1_1)); ms = makes_1_1_1; of = of_1_1; answers = (no_answer of_1_1); end = end_1_1; asks = none_leads; futures = futures_1_1_at_3 }; demand = demand_1_1_at_3 }
+
+  futures_1_1_1_at_3 : (j : ℕ) (t : Term Name) → slice_get makes_1_1_1_1 j ≡ Some (made Future t) → IsIn (part part_1_1_1 (suc j)) among_3
+  futures_1_1_1_at_3 zero t p = absurd cc
+  futures_1_1_1_at_3 (suc j) t p = absurd cc
+
+  abbrev row_1_1_1_at_3 : Row (language 4) seque_of_three limit 3 among_3
+  row_1_1_1_at_3 = record { name = part_1_1_1; followed = record { w = work_1_1_1; a = []; o = gave (cons (int (pos 2) & no_values) (cell part_1_1_1_1)); ms = makes_1_1_1_1; of = of_1_1_1; answers = (no_answer of_1_1_1); end = end_1_1_1; asks = none_leads; futures = futures_1_1_1_at_3 }; demand = demand_1_1_1_at_3 }
+
+  abbrev rows_at_3 : List (Row (language 4) seque_of_three limit 3 among_3)
+  rows_at_3 = row_1_at_3 ∷ row_2_at_3 ∷ row_3_at_3 ∷ row_2_1_at_3 ∷ row_1_2_at_3 ∷ row_1_2_1_at_3 ∷ row_1_2_1_1_at_3 ∷ row_1_1_at_3 ∷ row_1_1_1_at_3 ∷ []
+
+  forms_at_3 : (i : ℕ) → i < 3 → IsIn (form (suc i)) among_3
+  forms_at_3 zero h = here
+  forms_at_3 (suc zero) h = (there here)
+  forms_at_3 (suc (suc zero)) h = (there (there here))
+  forms_at_3 (suc (suc (suc i))) h = absurd (omega arith)
+
+  totals_at_3 : Totals seque_of_three limit 3 9 6 0
+  totals_at_3 = totals_of (language 4) seque_of_three limit 3 among_3 rows_at_3 forms_at_3 refl refl refl refl refl refl refl
+
+  before_4 : Before (language 4) seque_of_three limit 4 (cell part_1_2 ∷ cell part_2_2 ∷ nil ∷ nil ∷ [])
+  before_4 = other_before before_3 refl prn_none refl
+
+  of_5 : OfHere (form 5) work_5
+  of_5 = of_top before_4 refl
+
+  end_5 : run (language 4) seque_of_three limit (form 5) work_5 [] ≡ ends (gave (nil)) []
+  unfolding run walk digits
+  end_5 = refl
+
+  gives_5 : GivesHere (form 5) (gave (nil))
+  gives_5 = gives of_5 (no_answer of_5) end_5
+
+  is_2_2_1 : Part (language 4) seque_of_three limit part_2_2_1 Future work_2_2_1
+  is_2_2_1 = part_of {j = 0} of_2_2 true_2_2_1 (ap (λ r. slice_get (makes_of r) 0) end_2_2)
+
+  of_2_2_1 : OfHere part_2_2_1 work_2_2_1
+  of_2_2_1 = of_part is_2_2_1
+
+  needs_2_2_1_0 : run (language 4) seque_of_three limit part_2_2_1 work_2_2_1 [] ≡ needs part_2_1 []
+  unfolding run walk digits
+  needs_2_2_1_0 = refl
+
+  abbrev true_2_2_1_1 : TrueHere part_2_2_1 answers_2_2_1_1
+  true_2_2_1_1 = one_more of_2_2_1 (no_answer of_2_2_1) needs_2_2_1_0 gives_2_1
+
+  needs_2_2_1_1 : run (language 4) seque_of_three limit part_2_2_1 work_2_2_1 answers_2_2_1_1 ≡ needs part_1_2_1_1_1 []
+  unfolding run walk digits
+  needs_2_2_1_1 = refl
+
+  is_1_2_1_1_1 : Part (language 4) seque_of_three limit part_1_2_1_1_1 Lazy work_1_2_1_1_1
+  is_1_2_1_1_1 = part_of {j = 0} of_1_2_1_1 true_1_2_1_1_1 (ap (λ r. slice_get (makes_of r) 0) end_1_2_1_1)
+
+  of_1_2_1_1_1 : OfHere part_1_2_1_1_1 work_1_2_1_1_1
+  of_1_2_1_1_1 = of_part is_1_2_1_1_1
+
+  needs_1_2_1_1_1_0 : run (language 4) seque_of_three limit part_1_2_1_1_1 work_1_2_1_1_1 [] ≡ needs part_1_1_1_1 []
+  unfolding run walk digits
+  needs_1_2_1_1_1_0 = refl
+
+  is_1_1_1_1 : Part (language 4) seque_of_three limit part_1_1_1_1 Lazy work_1_1_1_1
+  is_1_1_1_1 = part_of {j = 0} of_1_1_1 (no_answer of_1_1_1) (ap (λ r. slice_get (makes_of r) 0) end_1_1_1)
+
+  of_1_1_1_1 : OfHere part_1_1_1_1 work_1_1_1_1
+  of_1_1_1_1 = of_part is_1_1_1_1
+
+  end_1_1_1_1 : run (language 4) seque_of_three limit part_1_1_1_1 work_1_1_1_1 [] ≡ ends (gave (cons (int (pos 3) & no_values) (cell part_1_1_1_1_1))) makes_1_1_1_1_1
+  unfolding run walk digits
+  end_1_1_1_1 = refl
+
+  gives_1_1_1_1 : GivesHere part_1_1_1_1 (gave (cons (int (pos 3) & no_values) (cell part_1_1_1_1_1)))
+  gives_1_1_1_1 = gives of_1_1_1_1 (no_answer of_1_1_1_1) end_1_1_1_1
+
+  abbrev true_1_2_1_1_1_1 : TrueHere part_1_2_1_1_1 answers_1_2_1_1_1_1
+  true_1_2_1_1_1_1 = one_more of_1_2_1_1_1 (no_answer of_1_2_1_1_1) needs_1_2_1_1_1_0 gives_1_1_1_1
+
+  end_1_2_1_1_1 : run (language 4) seque_of_three limit part_1_2_1_1_1 work_1_2_1_1_1 answers_1_2_1_1_1_1 ≡ ends (gave (cons (int (pos 4) & no_values) (cell part_1_2_1_1_1_1))) makes_1_2_1_1_1_1
+  unfolding run walk digits
+  end_1_2_1_1_1 = refl
+
+  gives_1_2_1_1_1 : GivesHere part_1_2_1_1_1 (gave (cons (int (pos 4) & no_values) (cell part_1_2_1_1_1_1)))
+  gives_1_2_1_1_1 = gives of_1_2_1_1_1 true_1_2_1_1_1_1 end_1_2_1_1_1
+
+  abbrev true_2_2_1_2 : TrueHere part_2_2_1 answers_2_2_1_2
+  true_2_2_1_2 = one_more of_2_2_1 true_2_2_1_1 needs_2_2_1_1 gives_1_2_1_1_1
+
+  end_2_2_1 : run (language 4) seque_of_three limit part_2_2_1 work_2_2_1 answers_2_2_1_2 ≡ ends (gave (cell part_1_2_1_1_1_1)) []
+  unfolding run walk digits
+  end_2_2_1 = refl
+
+  gives_2_2_1 : GivesHere part_2_2_1 (gave (cell part_1_2_1_1_1_1))
+  gives_2_2_1 = gives of_2_2_1 true_2_2_1_2 end_2_2_1
+
+  demand_1_at_5 : Demand (language 4) seque_of_three limit 5 (form 1)
+  demand_1_at_5 = demands_form {i = 0} (omega arith)
+
+  demand_2_at_5 : Demand (language 4) seque_of_three limit 5 (form 2)
+  demand_2_at_5 = demands_form {i = 1} (omega arith)
+
+  demand_3_at_5 : Demand (language 4) seque_of_three limit 5 (form 3)
+  demand_3_at_5 = demands_form {i = 2} (omega arith)
+
+  demand_4_at_5 : Demand (language 4) seque_of_three limit 5 (form 4)
+  demand_4_at_5 = demands_form {i = 3} (omega arith)
+
+  demand_5_at_5 : Demand (language 4) seque_of_three limit 5 (form 5)
+  demand_5_at_5 = demands_form {i = 4} (omega arith)
+
+  demand_2_1_at_5 : Demand (language 4) seque_of_three limit 5 part_2_1
+  demand_2_1_at_5 = demands_future {j = 0} demand_2_at_5 of_2 (no_answer of_2) (ap (λ r. slice_get (makes_of r) 0) end_2)
+
+  demand_2_2_at_5 : Demand (language 4) seque_of_three limit 5 part_2_2
+  demand_2_2_at_5 = demands_need demand_4_at_5 of_4 (no_answer of_4) needs_4_0 (no_failure (language 4) seque_of_three limit 5 among_5 gives_2_2)
+
+  demand_1_2_at_5 : Demand (language 4) seque_of_three limit 5 part_1_2
+  demand_1_2_at_5 = demands_need demand_2_1_at_5 of_2_1 (no_answer of_2_1) needs_2_1_0 (no_failure (language 4) seque_of_three limit 5 among_5 gives_1_2)
+
+  demand_1_2_1_at_5 : Demand (language 4) seque_of_three limit 5 part_1_2_1
+  demand_1_2_1_at_5 = demands_need demand_2_1_at_5 of_2_1 true_2_1_1 needs_2_1_1 (no_failure (language 4) seque_of_three limit 5 among_5 gives_1_2_1)
+
+  demand_1_2_1_1_at_5 : Demand (language 4) seque_of_three limit 5 part_1_2_1_1
+  demand_1_2_1_1_at_5 = demands_need demand_2_1_at_5 of_2_1 true_2_1_2 needs_2_1_2 (no_failure (language 4) seque_of_three limit 5 among_5 gives_1_2_1_1)
+
+  demand_2_2_1_at_5 : Demand (language 4) seque_of_three limit 5 part_2_2_1
+  demand_2_2_1_at_5 = demands_future {j = 0} demand_2_2_at_5 of_2_2 true_2_2_1 (ap (λ r. slice_get (makes_of r) 0) end_2_2)
+
+  demand_1_1_at_5 : Demand (language 4) seque_of_three limit 5 part_1_1
+  demand_1_1_at_5 = demands_need demand_1_2_1_at_5 of_1_2_1 (no_answer of_1_2_1) needs_1_2_1_0 (no_failure (language 4) seque_of_three limit 5 among_5 gives_1_1)
+
+  demand_1_1_1_at_5 : Demand (language 4) seque_of_three limit 5 part_1_1_1
+  demand_1_1_1_at_5 = demands_need demand_1_2_1_1_at_5 of_1_2_1_1 (no_answer of_1_2_1_1) needs_1_2_1_1_0 (no_failure (language 4) seque_of_three limit 5 among_5 gives_1_1_1)
+
+  demand_1_2_1_1_1_at_5 : Demand (language 4) seque_of_three limit 5 part_1_2_1_1_1
+  demand_1_2_1_1_1_at_5 = demands_need demand_2_2_1_at_5 of_2_2_1 true_2_2_1_1 needs_2_2_1_1 (no_failure (language 4) seque_of_three limit 5 among_5 gives_1_2_1_1_1)
+
+  demand_1_1_1_1_at_5 : Demand (language 4) seque_of_three limit 5 part_1_1_1_1
+  demand_1_1_1_1_at_5 = demands_need demand_1_2_1_1_1_at_5 of_1_2_1_1_1 (no_answer of_1_2_1_1_1) needs_1_2_1_1_1_0 (no_failure (language 4) seque_of_three limit 5 among_5 gives_1_1_1_1)
+
+  futures_1_at_5 : (j : ℕ) (t : Term Name) → slice_get makes_1_2 j ≡ Some (made Future t) → IsIn (part (form 1) (suc j)) among_5
+  futures_1_at_5 zero t p = absurd cc
+  futures_1_at_5 (suc zero) t p = absurd cc
+  futures_1_at_5 (suc (suc j)) t p = absurd cc
+
+  abbrev row_1_at_5 : Row (language 4) seque_of_three limit 5 among_5
+  row_1_at_5 = record { name = (form 1); followed = record { w = work_1; a = []; o = gave (cell part_1_2); ms = makes_1_2; of = of_1; answers = (no_answer of_1); end = end_1; asks = none_leads; futures = futures_1_at_5 }; demand = demand_1_at_5 }
+
+  futures_2_at_5 : (j : ℕ) (t : Term Name) → slice_get makes_2_2 j ≡ Some (made Future t) → IsIn (part (form 2) (suc j)) among_5
+  futures_2_at_5 zero t p = (there (there (there (there (there here)))))
+  futures_2_at_5 (suc zero) t p = absurd cc
+  futures_2_at_5 (suc (suc j)) t p = absurd cc
+
+  abbrev row_2_at_5 : Row (language 4) seque_of_three limit 5 among_5
+  row_2_at_5 = record { name = (form 2); followed = record { w = work_2; a = []; o = gave (cell part_2_2); ms = makes_2_2; of = of_2; answers = (no_answer of_2); end = end_2; asks = none_leads; futures = futures_2_at_5 }; demand = demand_2_at_5 }
+
+  futures_3_at_5 : (j : ℕ) (t : Term Name) → slice_get [] j ≡ Some (made Future t) → IsIn (part (form 3) (suc j)) among_5
+  futures_3_at_5 j t p = absurd cc
+
+  abbrev row_3_at_5 : Row (language 4) seque_of_three limit 5 among_5
+  row_3_at_5 = record { name = (form 3); followed = record { w = work_3; a = []; o = gave (nil); ms = []; of = of_3; answers = (no_answer of_3); end = end_3; asks = none_leads; futures = futures_3_at_5 }; demand = demand_3_at_5 }
+
+  futures_4_at_5 : (j : ℕ) (t : Term Name) → slice_get [] j ≡ Some (made Future t) → IsIn (part (form 4) (suc j)) among_5
+  futures_4_at_5 j t p = absurd cc
+
+  abbrev row_4_at_5 : Row (language 4) seque_of_three limit 5 among_5
+  row_4_at_5 = record { name = (form 4); followed = record { w = work_4; a = answers_4_1; o = gave (text (codes "1")); ms = []; of = of_4; answers = true_4_1; end = end_4; asks = (one_leads (leads_on (no_failure (language 4) seque_of_three limit 5 among_5 gives_2_2) (there (there (there (there (there (there here))))))) none_leads); futures = futures_4_at_5 }; demand = demand_4_at_5 }
+
+  futures_5_at_5 : (j : ℕ) (t : Term Name) → slice_get [] j ≡ Some (made Future t) → IsIn (part (form 5) (suc j)) among_5
+  futures_5_at_5 j t p = absurd cc
+
+  abbrev row_5_at_5 : Row (language 4) seque_of_three limit 5 among_5
+  row_5_at_5 = record { name = (form 5); followed = record { w = work_5; a = []; o = gave (nil); ms = []; of = of_5; answers = (no_answer of_5); end = end_5; asks = none_leads; futures = futures_5_at_5 }; demand = demand_5_at_5 }
+
+  futures_2_1_at_5 : (j : ℕ) (t : Term Name) → slice_get [] j ≡ Some (made Future t) → IsIn (part part_2_1 (suc j)) among_5
+  futures_2_1_at_5 j t p = absurd cc
+
+  abbrev row_2_1_at_5 : Row (language 4) seque_of_three limit 5 among_5
+  row_2_1_at_5 = record { name = part_2_1; followed = record { w = work_2_1; a = answers_2_1_3; o = gave (cell part_1_2_1_1_1); ms = []; of = of_2_1; answers = true_2_1_3; end = end_2_1; asks = (one_leads (leads_on (no_failure (language 4) seque_of_three limit 5 among_5 gives_1_2_1_1) (there (there (there (there (there (there (there (there (there here)))))))))) (one_leads (leads_on (no_failure (language 4) seque_of_three limit 5 among_5 gives_1_2_1) (there (there (there (there (there (there (there (there here))))))))) (one_leads (leads_on (no_failure (language 4) seque_of_three limit 5 among_5 gives_1_2) (there (there (there (there (there (there (there here)))))))) none_leads))); futures = futures_2_1_at_5 }; demand = demand_2_1_at_5 }
+
+  futures_2_2_at_5 : (j : ℕ) (t : Term Name) → slice_get makes_2_2_2 j ≡ Some (made Future t) → IsIn (part part_2_2 (suc j)) among_5
+  futures_2_2_at_5 zero t p = (there (there (there (there (there (there (there (there (there (there here))))))))))
+  futures_2_2_at_5 (suc zero) t p = absurd cc
+  futures_2_2_at_5 (suc (suc j)) t p = absurd cc
+
+  abbrev row_2_2_at_5 : Row (language 4) seque_of_three limit 5 among_5
+  row_2_2_at_5 = record { name = part_2_2; followed = record { w = work_2_2; a = answers_2_2_1; o = gave (cons (int (pos 1) & no_values) (cell part_2_2_2)); ms = makes_2_2_2; of = of_2_2; answers = true_2_2_1; end = end_2_2; asks = (one_leads (leads_on (no_failure (language 4) seque_of_three limit 5 among_5 gives_1_2) (there (there (there (there (there (there (there here)))))))) none_leads); futures = futures_2_2_at_5 }; demand = demand_2_2_at_5 }
+
+  futures_1_2_at_5 : (j : ℕ) (t : Term Name) → slice_get makes_1_2_1 j ≡ Some (made Future t) → IsIn (part part_1_2 (suc j)) among_5
+  futures_1_2_at_5 zero t p = absurd cc
+  futures_1_2_at_5 (suc j) t p = absurd cc
+
+  abbrev row_1_2_at_5 : Row (language 4) seque_of_three limit 5 among_5
+  row_1_2_at_5 = record { name = part_1_2; followed = record { w = work_1_2; a = []; o = gave (cons (int (pos 1) & no_values) (cell part_1_2_1)); ms = makes_1_2_1; of = of_1_2; answers = (no_answer of_1_2); end = end_1_2; asks = none_leads; futures = futures_1_2_at_5 }; demand = demand_1_2_at_5 }
+
+  futures_1_2_1_at_5 : (j : ℕ) (t : Term Name) → slice_get makes_1_2_1_1 j ≡ Some (made Future t) → IsIn (part part_1_2_1 (suc j)) among_5
+  futures_1_2_1_at_5 zero t p = absurd cc
+  futures_1_2_1_at_5 (suc j) t p = absurd cc
+
+  abbrev row_1_2_1_at_5 : Row (language 4) seque_of_three limit 5 among_5
+  row_1_2_1_at_5 = record { name = part_1_2_1; followed = record { w = work_1_2_1; a = answers_1_2_1_1; o = gave (cons (int (pos 2) & no_values) (cell part_1_2_1_1)); ms = makes_1_2_1_1; of = of_1_2_1; answers = true_1_2_1_1; end = end_1_2_1; asks = (one_leads (leads_on (no_failure (language 4) seque_of_three limit 5 among_5 gives_1_1) (there (there (there (there (there (there (there (there (there (there (there here)))))))))))) none_leads); futures = futures_1_2_1_at_5 }; demand = demand_1_2_1_at_5 }
+
+  futures_1_2_1_1_at_5 : (j : ℕ) (t : Term Name) → slice_get makes_1_2_1_1_1 j ≡ Some (made Future t) → IsIn (part part_1_2_1_1 (suc j)) among_5
+  futures_1_2_1_1_at_5 zero t p = absurd cc
+  futures_1_2_1_1_at_5 (suc j) t p = absurd cc
+
+  abbrev row_1_2_1_1_at_5 : Row (language 4) seque_of_three limit 5 among_5
+  row_1_2_1_1_at_5 = record { name = part_1_2_1_1; followed = record { w = work_1_2_1_1; a = answers_1_2_1_1_1; o = gave (cons (int (pos 3) & no_values) (cell part_1_2_1_1_1)); ms = makes_1_2_1_1_1; of = of_1_2_1_1; answers = true_1_2_1_1_1; end = end_1_2_1_1; asks = (one_leads (leads_on (no_failure (language 4) seque_of_three limit 5 among_5 gives_1_1_1) (there (there (there (there (there (there (there (there (there (there (there (there here))))))))))))) none_leads); futures = futures_1_2_1_1_at_5 }; demand = demand_1_2_1_1_at_5 }
+
+  futures_2_2_1_at_5 : (j : ℕ) (t : Term Name) → slice_get [] j ≡ Some (made Future t) → IsIn (part part_2_2_1 (suc j)) among_5
+  futures_2_2_1_at_5 j t p = absurd cc
+
+  abbrev row_2_2_1_at_5 : Row (language 4) seque_of_three limit 5 among_5
+  row_2_2_1_at_5 = record { name = part_2_2_1; followed = record { w = work_2_2_1; a = answers_2_2_1_2; o = gave (cell part_1_2_1_1_1_1); ms = []; of = of_2_2_1; answers = true_2_2_1_2; end = end_2_2_1; asks = (one_leads (leads_on (no_failure (language 4) seque_of_three limit 5 among_5 gives_1_2_1_1_1) (there (there (there (there (there (there (there (there (there (there (there (there (there here)))))))))))))) (one_leads (leads_on (no_failure (language 4) seque_of_three limit 5 among_5 gives_2_1) (there (there (there (there (there here)))))) none_leads)); futures = futures_2_2_1_at_5 }; demand = demand_2_2_1_at_5 }
+
+  futures_1_1_at_5 : (j : ℕ) (t : Term Name) → slice_get makes_1_1_1 j ≡ Some (made Future t) → IsIn (part part_1_1 (suc j)) among_5
+  futures_1_1_at_5 zero t p = absurd cc
+  futures_1_1_at_5 (suc j) t p = absurd cc
+
+  abbrev row_1_1_at_5 : Row (language 4) seque_of_three limit 5 among_5
+  row_1_1_at_5 = record { name = part_1_1; followed = record { w = work_1_1; a = []; o = gave (cons (int (pos 1) & no_values) (cell part_1_1_1)); ms = makes_1_1_1; of = of_1_1; answers = (no_answer of_1_1); end = end_1_1; asks = none_leads; futures = futures_1_1_at_5 }; demand = demand_1_1_at_5 }
+
+  futures_1_1_1_at_5 : (j : ℕ) (t : Term Name) → slice_get makes_1_1_1_1 j ≡ Some (made Future t) → IsIn (part part_1_1_1 (suc j)) among_5
+  futures_1_1_1_at_5 zero t p = absurd cc
+  futures_1_1_1_at_5 (suc j) t p = absurd cc
+
+  abbrev row_1_1_1_at_5 : Row (language 4) seque_of_three limit 5 among_5
+  row_1_1_1_at_5 = record { name = part_1_1_1; followed = record { w = work_1_1_1; a = []; o = gave (cons (int (pos 2) & no_values) (cell part_1_1_1_1)); ms = makes_1_1_1_1; of = of_1_1_1; answers = (no_answer of_1_1_1); end = end_1_1_1; asks = none_leads; futures = futures_1_1_1_at_5 }; demand = demand_1_1_1_at_5 }
+
+  futures_1_2_1_1_1_at_5 : (j : ℕ) (t : Term Name) → slice_get makes_1_2_1_1_1_1 j ≡ Some (made Future t) → IsIn (part part_1_2_1_1_1 (suc j)) among_5
+  futures_1_2_1_1_1_at_5 zero t p = absurd cc
+  futures_1_2_1_1_1_at_5 (suc j) t p = absurd cc
+
+  abbrev row_1_2_1_1_1_at_5 : Row (language 4) seque_of_three limit 5 among_5
+  row_1_2_1_1_1_at_5 = record { name = part_1_2_1_1_1; followed = record { w = work_1_2_1_1_1; a = answers_1_2_1_1_1_1; o = gave (cons (int (pos 4) & no_values) (cell part_1_2_1_1_1_1)); ms = makes_1_2_1_1_1_1; of = of_1_2_1_1_1; answers = true_1_2_1_1_1_1; end = end_1_2_1_1_1; asks = (one_leads (leads_on (no_failure (language 4) seque_of_three limit 5 among_5 gives_1_1_1_1) (there (there (there (there (there (there (there (there (there (there (there (there (there (there here))))))))))))))) none_leads); futures = futures_1_2_1_1_1_at_5 }; demand = demand_1_2_1_1_1_at_5 }
+
+  futures_1_1_1_1_at_5 : (j : ℕ) (t : Term Name) → slice_get makes_1_1_1_1_1 j ≡ Some (made Future t) → IsIn (part part_1_1_1_1 (suc j)) among_5
+  futures_1_1_1_1_at_5 zero t p = absurd cc
+  futures_1_1_1_1_at_5 (suc j) t p = absurd cc
+
+  abbrev row_1_1_1_1_at_5 : Row (language 4) seque_of_three limit 5 among_5
+  row_1_1_1_1_at_5 = record { name = part_1_1_1_1; followed = record { w = work_1_1_1_1; a = []; o = gave (cons (int (pos 3) & no_values) (cell part_1_1_1_1_1)); ms = makes_1_1_1_1_1; of = of_1_1_1_1; answers = (no_answer of_1_1_1_1); end = end_1_1_1_1; asks = none_leads; futures = futures_1_1_1_1_at_5 }; demand = demand_1_1_1_1_at_5 }
+
+  abbrev rows_at_5 : List (Row (language 4) seque_of_three limit 5 among_5)
+  rows_at_5 = row_1_at_5 ∷ row_2_at_5 ∷ row_3_at_5 ∷ row_4_at_5 ∷ row_5_at_5 ∷ row_2_1_at_5 ∷ row_2_2_at_5 ∷ row_1_2_at_5 ∷ row_1_2_1_at_5 ∷ row_1_2_1_1_at_5 ∷ row_2_2_1_at_5 ∷ row_1_1_at_5 ∷ row_1_1_1_at_5 ∷ row_1_2_1_1_1_at_5 ∷ row_1_1_1_1_at_5 ∷ []
+
+  forms_at_5 : (i : ℕ) → i < 5 → IsIn (form (suc i)) among_5
+  forms_at_5 zero h = here
+  forms_at_5 (suc zero) h = (there here)
+  forms_at_5 (suc (suc zero)) h = (there (there here))
+  forms_at_5 (suc (suc (suc zero))) h = (there (there (there here)))
+  forms_at_5 (suc (suc (suc (suc zero)))) h = (there (there (there (there here))))
+  forms_at_5 (suc (suc (suc (suc (suc i))))) h = absurd (omega arith)
+
+  totals_at_5 : Totals seque_of_three limit 5 13 10 0
+  totals_at_5 = totals_of (language 4) seque_of_three limit 5 among_5 rows_at_5 forms_at_5 refl refl refl refl refl refl refl
+
+pub seque_of_three_holds : SequeOfThree
+seque_of_three_holds = (λ limit h. from_past (λ limit. Prints seque_of_three limit 4 (codes "1") × Totals seque_of_three limit 3 9 6 0 × Totals seque_of_three limit 5 13 10 0) 6 limit h (λ n. (gives_4 n, totals_at_3 n, totals_at_5 n)), gives_4_exact, gives_4_below)

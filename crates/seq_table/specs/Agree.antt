@@ -1,0 +1,11 @@
+-- Two lists as far as both are read: one goes on where the other was cut, and their elements are related.
+use Rattle.seq_values.specs.Model.{Value}
+use Rattle.seq_plan.specs.Alike.{Like}
+use Rattle.seq_meaning.specs.Names.{Name}
+use Rattle.seq_table.specs.World.{Seen, cut, done, ◌▸◌}
+
+pub data Agree (R : Name → Name → Type 0) : Seen Name → Seen Name → Type 0 where
+  first_cut : {l : Seen Name} → Agree R cut l
+  second_cut : {l : Seen Name} → Agree R l cut
+  both_done : Agree R done done
+  both_more : {x y : Value Name} {l m : Seen Name} → Like R x y → Agree R l m → Agree R (x ▸ l) (y ▸ m)

@@ -1,0 +1,15 @@
+pub mod Table
+pub mod Laws
+pub mod Worked
+pub mod World
+pub mod Plains
+pub mod Fronts
+pub mod Outputs
+pub mod Generated
+pub mod Answers
+pub mod FoldTrees
+pub mod Written
+pub mod Coming
+pub mod Lists
+pub mod Same
+pub mod Agree
