@@ -1,17 +1,17 @@
 -- The rules of what works ahead look at cells only to ask them.
-use Rattle.std.proofs.Common.{ℕ, ◌+◌, ℤ, pos, int_le, List, Option}
+use Rattle.std.proofs.Common.{ℕ, ◌+◌, ℤ, pos, int_le, List, Option, refl}
 use Rattle.seq_values.specs.declared.words.Builtin.{Builtin}
 use Rattle.seq_values.specs.declared.words.Builtin.TheVariants as B
 use Rattle.seq_values.specs.declared.words.Op.{Op}
 use Rattle.seq_values.specs.declared.words.Op.TheVariants as O
 use Rattle.seq_values.specs.Model.{Value}
 use Rattle.seq_plan.specs.Plan.{Plan, Loop, ahead_from}
-use Rattle.seq_plan.specs.Alike.{Like, like_nil, like_int, like_cell, like_cons, like_none, like_more, LikeList, like_end, like_item, like_term, LikePlan, like_ask, like_seq, like_call, like_go, like_make, like_give, like_throw, LikeRound, like_ends_with, like_fails, like_visits}
+use Rattle.seq_plan.specs.Alike.{Likeness, Like, like_nil, like_int, like_cell, like_cons, like_none, like_more, LikeList, like_end, like_item, like_term, LikePlan, like_ask, like_seq, like_call, like_go, like_make, like_give, like_throw, LikeRound, like_ends_with, like_fails, like_visits}
 use Rattle.seq_plan.proofs.AlikeNodes.{LikeChunk, like_unchunked, like_chunked, like-cond, like-append, like-first_of, like-rest_of, like-chunk_of, like-if_nil, like-round_at, like-give_value, like-ask_each}
 use Rattle.seq_plan.proofs.AlikeLists.{like-lazily, like-first_and, like-items_and, like-with_seq, like-at_least_one}
 use Rattle.ahead_rules.specs.Table.{ask_of, step, pmap_rule, pmap_call, start_each, rets_on, rets_rule, step_rule, derefs_on, derefs_rule, call_rule, seque_rule, seque_call, ahead_rule, ahead_one_round, ahead_of_rule, near_rule, ahead_call, ahead_term, ahead_round}
 
-module _ {C D : Type 0} {R : C → D → Type 0} where
+module _ {C D : Type 0} {R : Likeness C D} where
   like-ask_of : {v : Value C} {w : Value D} → Like R v w → {k : Value C → Plan C} {h : Value D → Plan D} → ((v : Value C) (w : Value D) → Like R v w → LikePlan R (k v) (h w)) → LikePlan R (ask_of v k) (ask_of w h)
   like-ask_of (like_cell r) f = like_ask r f
   like-ask_of like_nil f = like_throw
@@ -19,7 +19,7 @@ module _ {C D : Type 0} {R : C → D → Type 0} where
 
   -- ## pmap
 
-  like-step : {v : Value C} {w : Value D} → Like R v w → {x : Value C} {y : Value D} → Like R x y → {k : C → Plan C} {h : D → Plan D} → ((c : C) (d : D) → R c d → LikePlan R (k c) (h d)) → LikePlan R (step v x k) (step w y h)
+  like-step : {v : Value C} {w : Value D} → Like R v w → {x : Value C} {y : Value D} → Like R x y → {k : C → Plan C} {h : D → Plan D} → ((c : C) (d : D) → R.same c d → LikePlan R (k c) (h d)) → LikePlan R (step v x k) (step w y h)
   like-step v x f =
       like_seq v (λ s t e. like-if_nil e
       (like_make (like_term (like_item like_nil (like_item like_nil (like_item v (like_item x like_end))))) f)
@@ -50,7 +50,7 @@ module _ {C D : Type 0} {R : C → D → Type 0} where
   like-step_rule x xs vs fs =
       like_seq fs (λ s t e. like-if_nil e
       (like-lazily O.Derefs (like_item vs like_end))
-      (like-ask_of x (λ v w i. like-step xs (like-rest_of e) (λ c d r. like-give_value (like_cons (like_more i like_none) (like_cell r))))))
+      (like-ask_of x (λ v w i. like-step xs (like-rest_of e) (λ c d r. like-give_value (like_cons (λ s. refl) (like_more i like_none) (like_cell r))))))
 
   like-derefs_on : {s : Value C} {t : Value D} → Like R s t → {c : Option (List (Value C) × Value C)} {d : Option (List (Value D) × Value D)} → LikeChunk R c d → LikePlan R (derefs_on s c) (derefs_on t d)
   like-derefs_on s like_unchunked = like-ask_of (like-first_of s) (λ v w e. like-first_and e O.Derefs (like_item (like-rest_of s) like_end))

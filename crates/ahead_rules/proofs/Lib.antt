@@ -1,1 +1,2 @@
 pub mod AlikeAhead
+pub mod WellAhead

@@ -6,7 +6,7 @@ use Rattle.seq_values.specs.declared.words.Target.{Target}
 use Rattle.seq_values.specs.declared.words.Target.TheVariants as T
 use Rattle.seq_values.specs.Model.{Value}
 use Rattle.seq_plan.specs.Plan.{Plan}
-use Rattle.seq_plan.specs.Alike.{Like, like_nil, like_bool, like_int, like_keyword, like_text, like_vector, like_function, like_reduced, LikeList, like_end, like_item, LikePlan, like_call, like_give, like_throw}
+use Rattle.seq_plan.specs.Alike.{Likeness, Like, like_nil, like_bool, like_int, like_keyword, like_text, like_vector, like_function, like_reduced, LikeList, like_end, like_item, LikePlan, like_call, like_give, like_throw}
 use Rattle.seq_plan.proofs.AlikeNodes.{like-cond, like-values, like-append, like-give_value, like-with_members}
 use Rattle.seq_plan.proofs.AlikeLists.{like-give_list, like-of_value}
 use Rattle.seq_plan.proofs.AlikeTests.{like-is_nil, like-holds, like-bools}
@@ -14,7 +14,7 @@ use Rattle.core_fns.specs.Arithmetic.{also, integers, on_integers, of_any, first
 use Rattle.seq_plan.proofs.AlikeStages.{like-has_stages}
 use Rattle.core_fns.specs.Table.{is_true, is_false, is_number, is_keyword, is_text, is_vector, is_function, is_reduced, unreduced, tells, give_function, give_vector, binds_one, partial, comp, completing, monoid, core_call, composed, comp_call, completing_call, monoid_call, core_function}
 
-module _ {C D : Type 0} {R : C → D → Type 0} where
+module _ {C D : Type 0} {R : Likeness C D} where
   -- ## Numbers of arguments
 
   like-integers : {xs : List (Value C)} {ys : List (Value D)} → LikeList R xs ys → integers xs ≡ integers ys

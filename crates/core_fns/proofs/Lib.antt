@@ -1,1 +1,2 @@
 pub mod AlikeCore
+pub mod WellCore

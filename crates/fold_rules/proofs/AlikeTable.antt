@@ -7,13 +7,13 @@ use Rattle.seq_values.specs.declared.words.FolderKind.TheVariants as F
 use Rattle.seq_values.specs.declared.words.Target.TheVariants as T
 use Rattle.seq_values.specs.Model.{Value}
 use Rattle.seq_plan.specs.Plan.{Plan}
-use Rattle.seq_plan.specs.Alike.{Like, like_int, like_vector, like_function, like_none, like_more, LikeList, like_end, like_item, like_term, LikePlan, like_ask, like_call, like_make, like_give, like_throw}
+use Rattle.seq_plan.specs.Alike.{Likeness, Like, like_int, like_vector, like_function, like_none, like_more, LikeList, like_end, like_item, like_term, LikePlan, like_ask, like_call, like_make, like_give, like_throw}
 use Rattle.seq_plan.proofs.AlikeNodes.{like-list, like-values, like-append, like-length, like-take, like-drop, like-cond, like-give_value}
 use Rattle.seq_plan.proofs.AlikeStages.{like_reduces, like-fresh, like-answer_of, like-enter_each}
 use Rattle.seq_plan.specs.Nodes.{give_value}
 use Rattle.fold_rules.specs.Table.{reducer, bottom, reducer_stage, reducer_stages, reduce_through, reduce_rule, can_split, items_of, fold_group, fold_at_most, fold_items, fold_rule, fold_term, take_of, fold_in, fold_call}
 
-module _ {C D : Type 0} {R : C → D → Type 0} where
+module _ {C D : Type 0} {R : Likeness C D} where
   like-bottom : {v : Value C} {w : Value D} → Like R v w → Like R (bottom v) (bottom w)
   like-bottom (like_function {t = T.Folder kind} (like_more f (like_more c like_none))) = like-bottom c
   like-bottom h = h

@@ -1,2 +1,3 @@
 pub mod AlikeTable
 pub mod Halves
+pub mod WellFolds

@@ -1,17 +1,18 @@
 -- The calls of lazy operations look at cells only to ask them.
-use Rattle.std.proofs.Common.{pos, List}
+use Rattle.std.proofs.Common.{pos, List, refl}
 use Rattle.seq_values.specs.declared.words.Op.{Op}
 use Rattle.seq_values.specs.declared.words.Op.TheVariants as O
 use Rattle.seq_values.specs.declared.words.Target.TheVariants as T
 use Rattle.seq_values.specs.declared.words.XfKind.{XfKind}
 use Rattle.seq_values.specs.declared.words.XfKind.TheVariants as X
 use Rattle.seq_values.specs.Model.{Value}
-use Rattle.seq_plan.specs.Alike.{Like, like_int, like_function, like_cell, like_none, like_more, LikeList, like_end, like_item, like_term, LikePlan, like_make, like_give, like_throw}
+use Rattle.seq_plan.specs.Alike.{Likeness, Like, like_int, like_function, like_cell, like_none, like_more, LikeList, like_end, like_item, like_term, LikePlan, like_make, like_give, like_throw}
+use Rattle.seq_plan.proofs.FitLemmas.{le_itself}
 use Rattle.seq_plan.proofs.AlikeNodes.{like-values, like-range_at, like-with_value, like-give_value}
 use Rattle.seq_plan.proofs.AlikeLists.{like-lazily, like-first_and, like-at_least_one}
 use Rattle.lazy_rules.specs.Calls.{give_stage, with_function, map_call, remove_call, with_count, partition_call, iterate_rule, iterate_call, range_call, repeat_call, cycle_call}
 
-module _ {C D : Type 0} {R : C → D → Type 0} where
+module _ {C D : Type 0} {R : Likeness C D} where
   like-give_stage : (kind : XfKind) {xs : List (Value C)} {ys : List (Value D)} → LikeList R xs ys → LikePlan R (give_stage kind xs) (give_stage kind ys)
   like-give_stage kind h = like-give_value (like_function {t = T.Xf kind} (like-values h))
 
@@ -57,8 +58,8 @@ module _ {C D : Type 0} {R : C → D → Type 0} where
 
   pub like-range_call : {xs : List (Value C)} {ys : List (Value D)} → LikeList R xs ys → LikePlan R (range_call xs) (range_call ys)
   like-range_call like_end = like-iterate_rule (like_function like_none) like_int
-  like-range_call (like_item (like_int {n = b}) like_end) = like_give (like-range_at (pos 0) (pos 0) b)
-  like-range_call (like_item (like_int {n = a}) (like_item (like_int {n = b}) like_end)) = like_give (like-range_at a a b)
+  like-range_call (like_item (like_int {n = b}) like_end) = like_give (like-range_at (pos 0) (pos 0) b (λ s. refl))
+  like-range_call (like_item (like_int {n = a}) (like_item (like_int {n = b}) like_end)) = like_give (like-range_at a a b (λ s. le_itself a))
   like-range_call (like_item _ like_end) = like_throw
   like-range_call (like_item _ (like_item _ like_end)) = like_throw
   like-range_call _ = like_throw

@@ -4,13 +4,13 @@ use Rattle.seq_values.specs.Model.{Value, bool}
 use Rattle.seq_base.specs.declared.thrown.Thrown.TheVariants.{BadType}
 use Rattle.seq_plan.specs.Plan.{Plan, seq, go, give, throw, then, equal_from, ends_with, visits}
 use Rattle.seq_plan.specs.Nodes.{first_of, rest_of, if_true}
-use Rattle.seq_plan.specs.Alike.{Like, like_nil, like_bool, like_int, like_keyword, like_text, like_function, like_reduced, LikeList, like_end, like_item, LikePlan, like_visit, like_seq, like_go, like_give, like_throw, LikeRound, like_ends_with, like_fails, like_visits}
+use Rattle.seq_plan.specs.Alike.{Likeness, Like, like_nil, like_bool, like_int, like_keyword, like_text, like_function, like_reduced, LikeList, like_end, like_item, LikePlan, like_visit, like_seq, like_go, like_give, like_throw, LikeRound, like_ends_with, like_fails, like_visits}
 use Rattle.seq_plan.proofs.AlikeNodes.{like-cond, like-first_of, like-rest_of, like-if_true}
 use Rattle.seq_plan.proofs.AlikePlans.{like-then}
 use Rattle.lazy_rules.specs.Equal.{is_incomparable, holds_elements, same_atom, pair_on, equal_on, equal_round, equal_each, equal_call, unequal_call}
 use Rattle.seq_plan.proofs.AlikeTests.{like-holds, like-is_nil, like-bools, like-cond_round}
 
-module _ {C D : Type 0} {R : C → D → Type 0} where
+module _ {C D : Type 0} {R : Likeness C D} where
   like-incomparable : {v : Value C} {w : Value D} → Like R v w → is_incomparable v ≡ is_incomparable w
   like-incomparable (like_function h) = refl
   like-incomparable (like_reduced h) = refl

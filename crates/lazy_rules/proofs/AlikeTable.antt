@@ -7,7 +7,7 @@ use Rattle.seq_values.specs.declared.words.Op.TheVariants as O
 use Rattle.seq_values.specs.declared.words.XfKind.TheVariants as X
 use Rattle.seq_values.specs.Model.{Value}
 use Rattle.seq_plan.specs.Plan.{Loop, nth_from, last_from, count_from, gather_from, doall_from, every_from, some_from, equal_from, reduce_from, drop_from, drop_while_from, parts_from}
-use Rattle.seq_plan.specs.Alike.{like_int, LikeList, like_end, like_item, LikePlan, like_seq, like_give, like_throw, LikeRound, like_fails}
+use Rattle.seq_plan.specs.Alike.{Likeness, like_int, LikeList, like_end, like_item, LikePlan, like_seq, like_give, like_throw, LikeRound, like_fails}
 use Rattle.seq_plan.proofs.AlikeLists.{like-of_value, like-lazily}
 use Rattle.lazy_rules.specs.Table.{walk_call, lazy_term, walk_round}
 use Rattle.lazy_rules.proofs.AlikeWalks.{like-first_rule, like-second_rule, like-rest_rule, like-next_rule, like-empty_rule, like-nth_call, like-nth_round, like-last_rule, like-last_round, like-count_rule, like-count_round, like-gather_round, like-vec_rule, like-reverse_rule, like-apply_call, like-doall_rule, like-doall_round, like-every_call, like-every_round, like-some_call, like-some_round, like-cons_call, like-conj_call, like-reduce_call, like-reduce_round, like-into_call}
@@ -15,7 +15,7 @@ use Rattle.lazy_rules.proofs.AlikeEqual.{like-equal_call, like-unequal_call, lik
 use Rattle.lazy_rules.proofs.AlikeCalls.{like-with_function, like-map_call, like-remove_call, like-with_count, like-partition_call, like-iterate_call, like-range_call, like-repeat_call, like-cycle_call}
 use Rattle.lazy_rules.proofs.AlikeTerms.{like-map_rule, like-map_all_rule, like-filter_rule, like-keep_rule, like-take_rule, like-take_while_rule, like-drop_rule, like-drop_round, like-drop_while_rule, like-drop_while_round, like-concat_rule, like-mapcat_rule, like-next_one_rule, like-repeat_rule, like-cycle_rule, like-parts_rule, like-parts_round}
 
-module _ {C D : Type 0} {R : C → D → Type 0} where
+module _ {C D : Type 0} {R : Likeness C D} where
   pub like-walk_call : (word : Builtin) {xs : List (Value C)} {ys : List (Value D)} → LikeList R xs ys → LikePlan R (walk_call word xs) (walk_call word ys)
   like-walk_call B.Seq h = like-of_value (λ v w e. like_seq e (λ s t i. like_give i)) h
   like-walk_call B.First h = like-of_value (λ v w e. like-first_rule e) h

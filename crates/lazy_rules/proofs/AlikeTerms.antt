@@ -5,13 +5,13 @@ use Rattle.seq_values.specs.declared.words.Op.TheVariants as O
 use Rattle.seq_values.specs.Model.{Value}
 use Rattle.seq_plan.specs.Plan.{Plan}
 use Rattle.seq_plan.specs.Nodes.{first_of, rest_of}
-use Rattle.seq_plan.specs.Alike.{Like, like_nil, like_bool, like_int, like_vector, like_cell, like_none, LikeList, like_end, like_item, like_term, LikePlan, like_seq, like_call, like_go, like_make, like_give, LikeRound, like_ends_with, like_fails, like_visits}
+use Rattle.seq_plan.specs.Alike.{Likeness, Like, like_nil, like_bool, like_int, like_vector, like_cell, like_none, LikeList, like_end, like_item, like_term, LikePlan, like_seq, like_call, like_go, like_make, like_give, LikeRound, like_ends_with, like_fails, like_visits}
 use Rattle.seq_plan.proofs.AlikeNodes.{LikeChunk, like_unchunked, like_chunked, like-cond, like-list, like-values, like-append, like-first_of, like-rest_of, like-chunk_of, like-if_nil, like-if_true, like-round_at, like-with_members, like-call_each, made_alike}
 use Rattle.seq_plan.proofs.AlikeLists.{like-list_of, like-lazily, like-first_and, like-items_and, like-with_seq}
 use Rattle.lazy_rules.specs.Terms.{map_on, map_rule, seq_each, unless_nil_among, map_all_rule, where_true, where_some, sift, one_or_cell, sift_on, filter_rule, keep_rule, take_rule, take_while_rule, drop_rule, drop_round, drop_while_rule, drop_while_round, concat_on, concat_rule, mapcat_rule, next_one_rule, repeat_rule, cycle_on, cycle_rule, parts_end, parts_on, parts_round, parts_rule}
 use Rattle.seq_plan.proofs.AlikeTests.{like-cond_round}
 
-module _ {C D : Type 0} {R : C → D → Type 0} where
+module _ {C D : Type 0} {R : Likeness C D} where
   -- ## Map, MapN
 
   like-map_on : {f s : Value C} {g t : Value D} → Like R f g → Like R s t → {c : Option (List (Value C) × Value C)} {d : Option (List (Value D) × Value D)} → LikeChunk R c d → LikePlan R (map_on f s c) (map_on g t d)

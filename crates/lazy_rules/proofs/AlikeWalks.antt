@@ -2,14 +2,14 @@
 use Rattle.std.proofs.Common.{◌≡◌, ◌-◌, ℤ, pos, ◌+ℤ◌, ◌-ℤ◌, int_lt, int_le, ◌&&◌, cond, List, ◌∷◌, length, subst}
 use Rattle.seq_values.specs.Model.{Value, int, list}
 use Rattle.seq_plan.specs.Plan.{Plan, go, give, nth_from, plan_of}
-use Rattle.seq_plan.specs.Alike.{Like, like_nil, like_int, like_vector, like_function, like_reduced, like_cell, like_range, like_vec_seq, like_none, LikeList, like_end, like_item, LikePlan, like_seq, like_call, like_go, like_give, like_throw, LikeRound, like_ends_with, like_fails, like_visits}
+use Rattle.seq_plan.specs.Alike.{Likeness, Like, like_nil, like_int, like_vector, like_function, like_reduced, like_cell, like_range, like_vec_seq, like_none, LikeList, like_end, like_item, LikePlan, like_seq, like_call, like_go, like_give, like_throw, LikeRound, like_ends_with, like_fails, like_visits}
 use Rattle.seq_plan.proofs.AlikeNodes.{like-cond, like-values, like-list, like-append, like-length, like-value_at, like-first_of, like-rest_of, like-round_at, like-with_value, like-give_value, like-with_members, made_alike}
 use Rattle.seq_plan.proofs.AlikeLists.{like-reverse, like-list_of, like-with_first}
 use Rattle.seq_plan.proofs.AlikeTests.{like-is_nil, like-bools, like-cond_round}
 use Rattle.seq_plan.proofs.AlikePlans.{like-plan_of}
 use Rattle.lazy_rules.specs.Walks.{greatest, first_rule, second_rule, rest_rule, next_rule, empty_rule, failing, nth_of_nil, nth_of_vector, nth_rule, nth_call, nth_round, last_rule, last_round, count_rule, count_ends, count_goes_on, count_on, count_round, gather_round, members, gather, vec_rule, reverse_rule, apply_rule, apply_call, doall_rule, doall_round, every_call, every_round, some_call, some_round, cons_call, with_one_more, conj_each, conj_rule, conj_call, unless_reduced, reduce_round, reduce_rule, reduce_call, into_call}
 
-module _ {C D : Type 0} {R : C → D → Type 0} where
+module _ {C D : Type 0} {R : Likeness C D} where
   -- ## seq, first, second, rest, next, empty?
 
   pub like-first_rule : {v : Value C} {w : Value D} → Like R v w → LikePlan R (first_rule v) (first_rule w)
@@ -88,8 +88,8 @@ module _ {C D : Type 0} {R : C → D → Type 0} where
 
   like-count_on : (n : ℤ) {v : Value C} {w : Value D} → Like R v w → LikeRound R (count_on n v) (count_on n w)
   like-count_on n like_nil = like_ends_with like_int
-  like-count_on n (like_range {at = at} {end = end}) = like-count_ends (n +ℤ (end -ℤ at))
-  like-count_on n (like_vec_seq {xs = xs} {at = at} h) = subst (λ m. LikeRound R (count_ends (n +ℤ pos (length (list xs) - at))) (count_ends (n +ℤ pos (m - at)))) (like-length (like-list h)) (like-count_ends (n +ℤ pos (length (list xs) - at)))
+  like-count_on n (like_range {at = at} {end = end} m) = like-count_ends (n +ℤ (end -ℤ at))
+  like-count_on n (like_vec_seq {xs = xs} {at = at} m h) = subst (λ m. LikeRound R (count_ends (n +ℤ pos (length (list xs) - at))) (count_ends (n +ℤ pos (m - at)))) (like-length (like-list h)) (like-count_ends (n +ℤ pos (length (list xs) - at)))
   like-count_on n h = like_visits (like-count_goes_on (n +ℤ pos 1) h)
 
   pub like-count_round : {xs : List (Value C)} {ys : List (Value D)} → LikeList R xs ys → LikeRound R (count_round xs) (count_round ys)

@@ -3,3 +3,8 @@ pub mod AlikeEqual
 pub mod AlikeCalls
 pub mod AlikeTerms
 pub mod AlikeTable
+pub mod WellWalks
+pub mod WellEqual
+pub mod WellTerms
+pub mod WellCalls
+pub mod WellTable

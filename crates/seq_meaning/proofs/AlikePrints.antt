@@ -2,12 +2,12 @@
 use Rattle.std.proofs.Common.{ℕ, Bool, true, false, List, [], ◌∷◌}
 use Rattle.seq_values.specs.Model.{Value, bool, text}
 use Rattle.seq_plan.specs.Plan.{Plan}
-use Rattle.seq_plan.specs.Alike.{Like, like_nil, like_bool, like_int, like_keyword, like_text, like_vector, like_function, like_reduced, like_cell, like_empty, like_cons, like_chunk, like_range, like_vec_seq, LikeList, like_end, like_item, LikePlan, like_seq, like_go, like_give, like_throw, LikeRound, like_ends_with, like_fails, like_visits}
+use Rattle.seq_plan.specs.Alike.{Likeness, Like, like_nil, like_bool, like_int, like_keyword, like_text, like_vector, like_function, like_reduced, like_cell, like_empty, like_cons, like_chunk, like_range, like_vec_seq, LikeList, like_end, like_item, LikePlan, like_seq, like_go, like_give, like_throw, LikeRound, like_ends_with, like_fails, like_visits}
 use Rattle.seq_plan.proofs.AlikeNodes.{like-first_of, like-rest_of, like-round_at, like-list, made_alike}
 use Rattle.seq_plan.proofs.AlikePlans.{like-then}
 use Rattle.seq_meaning.specs.Prints.{spaced, prints_next, print_items, print_vector, print_on, value_round, rest_round, print_rule}
 
-module _ {C D : Type 0} {R : C → D → Type 0} where
+module _ {C D : Type 0} {R : Likeness C D} where
   like-next : (so_far : List ℕ) {v : Value C} {w : Value D} → Like R v w → {k : Value C → Plan C} {h : Value D → Plan D} → ((v : Value C) (w : Value D) → Like R v w → LikePlan R (k v) (h w)) → LikePlan R (prints_next so_far v k) (prints_next so_far w h)
   like-next so_far h f = like_go (like_item like_text (like_item h like_end)) f
 
@@ -33,10 +33,10 @@ module _ {C D : Type 0} {R : C → D → Type 0} where
   like-print_on so_far (like_reduced h) = like-next _ h (λ v w e. like_give e)
   like-print_on so_far (like_cell r) = search made_alike depth 12
   like-print_on so_far like_empty = search made_alike depth 12
-  like-print_on so_far (like_cons h k) = search made_alike depth 12
-  like-print_on so_far (like_chunk h k) = search made_alike depth 12
-  like-print_on so_far like_range = like_seq like_range (search made_alike depth 12)
-  like-print_on so_far (like_vec_seq h) = like_seq (like_vec_seq h) (search made_alike depth 12)
+  like-print_on so_far (like_cons n h k) = like_seq (like_cons n h k) (search made_alike depth 12)
+  like-print_on so_far (like_chunk n h k) = like_seq (like_chunk n h k) (search made_alike depth 12)
+  like-print_on so_far (like_range n) = like_seq (like_range n) (search made_alike depth 12)
+  like-print_on so_far (like_vec_seq n h) = like_seq (like_vec_seq n h) (search made_alike depth 12)
 
   pub like-value_round : {xs : List (Value C)} {ys : List (Value D)} → LikeList R xs ys → LikeRound R (value_round xs) (value_round ys)
   like-value_round (like_item (like_text {bytes = so_far}) (like_item h like_end)) = like_visits (like-print_on so_far h)

@@ -7,18 +7,18 @@ use Rattle.seq_values.specs.Model.{Value, Term, Outcome, threw}
 use Rattle.clj_script.specs.Trees.{nil_literal, bool_literal, int_literal, keyword_literal, text_literal, empty_literal, Expr, literal, word, function_of, defined, local, vector_of, call_of, let_in, if_of, and_of, or_of, lazy_seq, Exprs, no_exprs, more_exprs, Top, def, defn, prn, ledger, Literal}
 use Rattle.seq_plan.specs.Plan.{Plan, seq, then, Round}
 use Rattle.seq_plan.specs.Nodes.{Found}
-use Rattle.seq_plan.specs.Alike.{Like, like_nil, like_bool, like_int, like_keyword, like_text, like_vector, like_function, like_cell, like_empty, like_none, LikeList, like_end, like_item, LikeTerm, like_term, LikeOutcome, like_gave, like_threw, LikePlan, like_visit, like_ask, like_seq, like_call, like_go, like_make, like_give, like_throw, LikeRound, like_ends_with, like_fails, like_visits, like_calls_for}
+use Rattle.seq_plan.specs.Alike.{Likeness, Like, like_nil, like_bool, like_int, like_keyword, like_text, like_vector, like_function, like_cell, like_empty, like_none, LikeList, like_end, like_item, LikeTerm, like_term, LikeOutcome, like_gave, like_threw, LikePlan, like_visit, like_ask, like_seq, like_call, like_go, like_make, like_give, like_throw, LikeRound, like_ends_with, like_fails, like_visits, like_calls_for}
 use Rattle.seq_plan.proofs.AlikeNodes.{LikeFound, like_now, like_asks_for, like_no_seq, like-found, like-value_at, like-append, like-values, like-list, like-length, like-if_true, like-with_value, like-with_members}
 use Rattle.seq_plan.proofs.AlikePlans.{like-then}
 use Rattle.seq_meaning.specs.Evaluates.{value_of, eval, evals, while_true, until_true, Script, body_in, with_body, called, term_plan, form_plan}
 use Rattle.seq_meaning.specs.Walk.{at_found, Made, Run, Due, enters, asks, also, finish, Rest, at_round, walk_by, answered, spent, walk}
 use Rattle.seq_meaning.specs.Alike.{LikeMade, like_made, like_no_make, like_make_then, LikeRun, like_needs, like_ends, like_over, LikeAnswers, like_no_answer, like_answer, LikeScript, like_script}
 
-pub data LikeDue {C D : Type 0} (R : C → D → Type 0) : Due C → Due D → Type 0 where
+pub data LikeDue {C D : Type 0} (R : Likeness C D) : Due C → Due D → Type 0 where
   like_enters : {p : Plan C} {q : Plan D} → LikePlan R p q → LikeDue R (enters p) (enters q)
-  like_asks : {c : C} {d : D} {k : Value C → Plan C} {h : Value D → Plan D} → R c d → ((v : Value C) (w : Value D) → Like R v w → LikePlan R (k v) (h w)) → LikeDue R (asks c k) (asks d h)
+  like_asks : {c : C} {d : D} {k : Value C → Plan C} {h : Value D → Plan D} → R.same c d → ((v : Value C) (w : Value D) → Like R v w → LikePlan R (k v) (h w)) → LikeDue R (asks c k) (asks d h)
 
-module _ {C D : Type 0} {R : C → D → Type 0} where
+module _ {C D : Type 0} {R : Likeness C D} where
   like-value_of : (l : Literal) → Like R (value_of l) (value_of l)
   like-value_of nil_literal = like_nil
   like-value_of (bool_literal b) = like_bool
@@ -88,10 +88,10 @@ module _ {C D : Type 0} {R : C → D → Type 0} where
   like-finish h (like_answer a as') = like_over
 
 -- rests of walks that go on alike
-abbrev pub LikeRest : {C D : Type 0} → (C → D → Type 0) → Rest C → Rest D → Type 0
+abbrev pub LikeRest : {C D : Type 0} → Likeness C D → Rest C → Rest D → Type 0
 LikeRest {C = C} {D = D} R r s = (j : ℕ) (os : List (Outcome C)) (ps : List (Outcome D)) → LikeAnswers R os ps → LikeRun R (r j os) (s j ps)
 
-module _ {C D : Type 0} (R : C → D → Type 0) {s : Script C} {s' : Script D} (hs : LikeScript R s s') (cell_of : ℕ → C) (cell_of' : ℕ → D) (hc : (j : ℕ) → R (cell_of j) (cell_of' j)) where
+module _ {C D : Type 0} (R : Likeness C D) {s : Script C} {s' : Script D} (hs : LikeScript R s s') (cell_of : ℕ → C) (cell_of' : ℕ → D) (hc : (j : ℕ) → R.same (cell_of j) (cell_of' j)) where
   like-walk_by : (due : Due C → Rest C) (due' : Due D → Rest D) → ((d : Due C) (d' : Due D) → LikeDue R d d' → LikeRest R (due d) (due' d')) → {p : Plan C} {q : Plan D} → LikePlan R p q → LikeRest R (walk_by s cell_of due p) (walk_by s' cell_of' due' q)
   like-walk_by due due' hd (like_visit p) j os ps h = hd _ _ (like_enters p) j os ps h
   like-walk_by due due' hd (like_ask r p) j os ps h = hd _ _ (like_asks r p) j os ps h

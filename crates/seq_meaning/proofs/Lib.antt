@@ -14,3 +14,7 @@ pub mod WorkedEndless
 pub mod Closing
 pub mod TrailsAlike
 pub mod TrailsTrue
+pub mod SoundRuns
+pub mod WellPrints
+pub mod WellWalk
+pub mod WellRuns

@@ -1,5 +1,5 @@
 -- The small table looks at cells only to ask them.
-use Rattle.std.proofs.Common.{ℤ, pos, ◌+ℤ◌, int_le, List, Option}
+use Rattle.std.proofs.Common.{refl, ℤ, pos, ◌+ℤ◌, int_le, List, Option}
 use Rattle.seq_values.specs.declared.words.Builtin.{Builtin}
 use Rattle.seq_values.specs.declared.words.Builtin.TheVariants as B
 use Rattle.seq_values.specs.declared.words.Op.{Op}
@@ -8,28 +8,24 @@ use Rattle.seq_values.specs.declared.words.Target.{Target}
 use Rattle.seq_values.specs.declared.words.Target.TheVariants as T
 use Rattle.seq_values.specs.Model.{Value}
 use Rattle.seq_plan.specs.Plan.{Plan, Loop, reduce_from, print_value, print_rest}
-use Rattle.seq_plan.specs.Alike.{Like, like_nil, like_int, like_reduced, LikeList, like_end, like_item, LikePlan, like_call, like_give, like_throw, LikeRound, like_fails, LikeRules}
+use Rattle.seq_plan.specs.Alike.{Likeness, Like, like_nil, like_int, like_reduced, LikeList, like_end, like_item, LikePlan, like_call, like_give, like_throw, LikeRound, like_fails, LikeRules}
+use Rattle.seq_plan.proofs.AlikeLists.{like-first_before, like-items_before}
 use Rattle.seq_plan.proofs.AlikeNodes.{LikeChunk, like_unchunked, like_chunked, like-cond, like-append, like-range_at, made_alike}
-use Rattle.seq_meaning.specs.SmallTable.{sum_rule, map_on, take_rule, term_rule, unless_reduced, reduce_round, word_rule, call_rule, loop_rule, small}
+use Rattle.seq_meaning.specs.SmallTable.{map_on, take_rule, term_rule, unless_reduced, reduce_round, word_rule, call_rule, loop_rule, small}
 use Rattle.seq_meaning.proofs.AlikePrints.{like-value_round, like-rest_round, like-print_rule}
 
-module _ {C D : Type 0} {R : C → D → Type 0} where
-  like-sum : (n : ℤ) {xs : List (Value C)} {ys : List (Value D)} → LikeList R xs ys → LikePlan R (sum_rule n xs) (sum_rule n ys)
-  like-sum n like_end = like_give like_int
-  like-sum n (like_item (like_int {n = m}) q) = like-cond _ (like-sum (n +ℤ m) q) like_throw
-  like-sum n (like_item _ q) = like_throw
-
+module _ {C D : Type 0} {R : Likeness C D} where
   like-map_on : {f s : Value C} {g t : Value D} → Like R f g → Like R s t → {c : Option (List (Value C) × Value C)} {d : Option (List (Value D) × Value D)} → LikeChunk R c d → LikePlan R (map_on f s c) (map_on g t d)
-  like-map_on hf hs like_unchunked = search made_alike depth 12
-  like-map_on hf hs (like_chunked hx hr) = search made_alike depth 12
+  like-map_on hf hs like_unchunked = search (made_alike, like-first_before) depth 12
+  like-map_on hf hs (like_chunked hx hr) = search (made_alike, like-items_before) depth 12
 
   like-take_rule : (n : ℤ) {v : Value C} {w : Value D} → Like R v w → LikePlan R (take_rule n v) (take_rule n w)
-  like-take_rule n h = like-cond (int_le n (pos 0)) (like_give like_nil) (search made_alike depth 12)
+  like-take_rule n h = like-cond (int_le n (pos 0)) (like_give like_nil) (search (made_alike, like-first_before) depth 12)
 
   like-term_rule : (op : Op) {xs : List (Value C)} {ys : List (Value D)} → LikeList R xs ys → LikePlan R (term_rule op xs) (term_rule op ys)
   like-term_rule O.Map (like_item f (like_item c like_end)) = search (made_alike, like-map_on) depth 12
   like-term_rule O.Take (like_item (like_int {n = n}) (like_item c like_end)) = like-take_rule n c
-  like-term_rule O.Next (like_item f (like_item x like_end)) = search made_alike depth 12
+  like-term_rule O.Next (like_item f (like_item x like_end)) = search (made_alike, like-first_before) depth 12
   like-term_rule O.Call (like_item f (like_item x like_end)) = search made_alike depth 12
   like-term_rule _ _ = like_throw
 
@@ -45,12 +41,14 @@ module _ {C D : Type 0} {R : C → D → Type 0} where
   like-word_rule : (b : Builtin) {xs : List (Value C)} {ys : List (Value D)} → LikeList R xs ys → LikePlan R (word_rule b xs) (word_rule b ys)
   like-word_rule B.Inc (like_item (like_int {n = n}) like_end) = like-cond _ (like_give like_int) like_throw
   like-word_rule B.Inc (like_item _ like_end) = like_throw
-  like-word_rule B.Plus h = like-sum (pos 0) h
+  like-word_rule B.Plus like_end = like_give like_int
+  like-word_rule B.Plus (like_item (like_int {n = m}) (like_item (like_int {n = n}) like_end)) = like-cond _ (like_give like_int) like_throw
+  like-word_rule B.Plus (like_item _ (like_item _ like_end)) = like_throw
   like-word_rule B.Map (like_item f (like_item c like_end)) = search made_alike depth 12
   like-word_rule B.Take (like_item (like_int {n = n}) (like_item c like_end)) = search made_alike depth 12
   like-word_rule B.Take (like_item _ (like_item _ like_end)) = like_throw
-  like-word_rule B.Iterate (like_item f (like_item x like_end)) = search made_alike depth 12
-  like-word_rule B.Range (like_item (like_int {n = n}) like_end) = like_give (like-range_at (pos 0) (pos 0) n)
+  like-word_rule B.Iterate (like_item f (like_item x like_end)) = search (made_alike, like-first_before) depth 12
+  like-word_rule B.Range (like_item (like_int {n = n}) like_end) = like_give (like-range_at (pos 0) (pos 0) n (λ s. refl))
   like-word_rule B.Range (like_item _ like_end) = like_throw
   like-word_rule B.First (like_item c like_end) = search made_alike depth 12
   like-word_rule B.Reduce (like_item f (like_item c like_end)) = search made_alike depth 14

@@ -6,7 +6,7 @@ use Rattle.seq_values.specs.declared.words.Kind.{Kind}
 use Rattle.seq_values.specs.Model.{Value, Outcome, gave, threw, Term}
 use Rattle.seq_plan.specs.Plan.{Plan, visit, ask, seq, call, make, throw, then, opened, Loop, Round}
 use Rattle.seq_plan.specs.Nodes.{Found, now, asks_for, no_seq, found}
-use Rattle.seq_plan.specs.Alike.{Like, LikeList, LikeOutcome, like_gave, like_threw, LikePlan, like_visit, like_ask, like_seq, like_call, like_go, like_make, like_give, like_throw, LikeRound}
+use Rattle.seq_plan.specs.Alike.{Likeness, Like, LikeList, LikeOutcome, like_gave, like_threw, LikePlan, like_visit, like_ask, like_seq, like_call, like_go, like_make, like_give, like_throw, LikeRound}
 use Rattle.seq_plan.proofs.AlikeNodes.{LikeFound, like_now, like_asks_for, like_no_seq, like-found}
 use Rattle.seq_plan.proofs.AlikePlans.{like-then, like-plan_of}
 use Rattle.seq_meaning.specs.Evaluates.{Script, called}
@@ -17,12 +17,12 @@ use Rattle.seq_meaning.specs.Follows.{LikeAsked, no_asked, one_asked, LikeNamed,
 use Rattle.seq_meaning.specs.Trail.{Trail, starts, looped, visited, entered, at_once, sought, missed, tired, answered, refused, made_part, IsDue, due_visit, due_ask, due_call}
 use Rattle.seq_meaning.proofs.AlikeWalk.{like-called}
 
-module _ {C D : Type 0} {R : C → D → Type 0} where
-  push-asked : {Good : D → Outcome D → Type 0} {xs : List (C × Outcome C)} {ys : List (D × Outcome D)} → LikeAsked R Good xs ys → {x : C × Outcome C} {y : D × Outcome D} → R x.0 y.0 → LikeOutcome R x.1 y.1 → Good y.0 y.1 → LikeAsked R Good (xs ++ x ∷ []) (ys ++ y ∷ [])
+module _ {C D : Type 0} {R : Likeness C D} where
+  push-asked : {Good : D → Outcome D → Type 0} {xs : List (C × Outcome C)} {ys : List (D × Outcome D)} → LikeAsked R Good xs ys → {x : C × Outcome C} {y : D × Outcome D} → R.same x.0 y.0 → LikeOutcome R x.1 y.1 → Good y.0 y.1 → LikeAsked R Good (xs ++ x ∷ []) (ys ++ y ∷ [])
   push-asked no_asked r o g = one_asked r o g no_asked
   push-asked (one_asked r o g h) s p q = one_asked r o g (push-asked h s p q)
 
-  push-named : {xs : List (C × Made C)} {ys : List (D × Made D)} → LikeNamed R xs ys → {x : C × Made C} {y : D × Made D} → R x.0 y.0 → LikeMade R x.1 y.1 → LikeNamed R (xs ++ x ∷ []) (ys ++ y ∷ [])
+  push-named : {xs : List (C × Made C)} {ys : List (D × Made D)} → LikeNamed R xs ys → {x : C × Made C} {y : D × Made D} → R.same x.0 y.0 → LikeMade R x.1 y.1 → LikeNamed R (xs ++ x ∷ []) (ys ++ y ∷ [])
   push-named no_named r o = one_named r o no_named
   push-named (one_named r o h) s p = one_named r o (push-named h s p)
 
@@ -31,9 +31,9 @@ module _ {C D : Type 0} {R : C → D → Type 0} where
   now_alike (like_asks_for r) p = absurd cc
   now_alike like_no_seq p = absurd cc
 
-  asks_alike : {f : Found C} {g : Found D} {c : C} → LikeFound R f g → f ≡ asks_for c → (d : D) × (g ≡ asks_for d) × R c d
+  asks_alike : {f : Found C} {g : Found D} {c : C} → LikeFound R f g → f ≡ asks_for c → (d : D) × (g ≡ asks_for d) × R.same c d
   asks_alike (like_now h) p = absurd cc
-  asks_alike {c = c} (like_asks_for {c = b} {d = d} r) p = let q : b ≡ c = cc in (d, refl, subst (λ x. R x d) q r)
+  asks_alike {c = c} (like_asks_for {c = b} {d = d} r) p = let q : b ≡ c = cc in (d, refl, subst (λ x. R.same x d) q r)
   asks_alike like_no_seq p = absurd cc
 
   none_alike : {f : Found C} {g : Found D} → LikeFound R f g → f ≡ no_seq → g ≡ no_seq
@@ -72,7 +72,7 @@ pub at_back : {A : Type 0} (xs : List A) (y : A) → IsIn y (xs ++ y ∷ [])
 at_back [] y = here
 at_back (z ∷ xs) y = there (at_back xs y)
 
-module _ {C D : Type 0} (R : C → D → Type 0) (Good : D → Outcome D → Type 0) {s : Script C} {t : Script D} (hs : LikeScript R s t) (limit : ℕ) {whole : Plan C} {other : Plan D} (hw : LikePlan R whole other) where
+module _ {C D : Type 0} (R : Likeness C D) (Good : D → Outcome D → Type 0) {s : Script C} {t : Script D} (hs : LikeScript R s t) (limit : ℕ) {whole : Plan C} {other : Plan D} (hw : LikePlan R whole other) where
   abbrev FollowsHere : ℕ → Plan C → List (C × Outcome C) → List (C × Made C) → Type 0
   FollowsHere n p asked mades = Follows R Good t limit other n p asked mades
 
@@ -95,19 +95,19 @@ module _ {C D : Type 0} (R : C → D → Type 0) (Good : D → Outcome D → Typ
     to_none : {n : ℕ} {v : Value C} {k : Value C → Plan C} {q : Plan D} → found v ≡ no_seq → LikePlan R (seq v k) q → TrailTo n q → FollowsHere n (throw BadType) asked mades
     to_none e (like_seq x h) r = record { plan = _; asks = _; makes = _; trail = missed r (none_alike (like-found x) e); like_plan = like_throw; like_asks = ha; like_makes = hm }
 
-    to_answer : {n : ℕ} {c : C} {k : Value C → Plan C} {q : Plan D} {v : Value C} → ((d : D) → R c d → (o : Outcome D) × LikeOutcome R (gave v) o × Good d o) → LikePlan R (ask c k) q → TrailTo (suc n) q → FollowsHere n (k v) (asked ++ (c, gave v) ∷ []) mades
+    to_answer : {n : ℕ} {c : C} {k : Value C → Plan C} {q : Plan D} {v : Value C} → ((d : D) → R.same c d → (o : Outcome D) × LikeOutcome R (gave v) o × Good d o) → LikePlan R (ask c k) q → TrailTo (suc n) q → FollowsHere n (k v) (asked ++ (c, gave v) ∷ []) mades
     to_answer {n = n} {c = c} {k = k} {v = v} has (like_ask {d = d} {h = l} x h) r = go (has d x).1 (has d x).2
       where
         go : {o : Outcome D} → LikeOutcome R (gave v) o → Good d o → FollowsHere n (k v) (asked ++ (c, gave v) ∷ []) mades
         go (like_gave {w = w} i) g = record { plan = _; asks = _; makes = _; trail = answered r w; like_plan = h _ _ i; like_asks = push-asked ha x (like_gave i) g; like_makes = hm }
 
-    to_refusal : {n : ℕ} {c : C} {k : Value C → Plan C} {q : Plan D} {e : Thrown} → ((d : D) → R c d → (o : Outcome D) × LikeOutcome R (threw e) o × Good d o) → LikePlan R (ask c k) q → TrailTo (suc n) q → FollowsHere n (throw e) (asked ++ (c, threw e) ∷ []) mades
+    to_refusal : {n : ℕ} {c : C} {k : Value C → Plan C} {q : Plan D} {e : Thrown} → ((d : D) → R.same c d → (o : Outcome D) × LikeOutcome R (threw e) o × Good d o) → LikePlan R (ask c k) q → TrailTo (suc n) q → FollowsHere n (throw e) (asked ++ (c, threw e) ∷ []) mades
     to_refusal {n = n} {c = c} {e = e} has (like_ask {d = d} x h) r = go (has d x).1 (has d x).2
       where
         go : {o : Outcome D} → LikeOutcome R (threw e) o → Good d o → FollowsHere n (throw e) (asked ++ (c, threw e) ∷ []) mades
         go like_threw g = record { plan = _; asks = _; makes = _; trail = refused r e; like_plan = like_throw; like_asks = push-asked ha x like_threw g; like_makes = hm }
 
-    to_make : {n : ℕ} {kind : Kind} {u : Term C} {k : C → Plan C} {q : Plan D} {c : C} {d : D} → R c d → LikePlan R (make kind u k) q → TrailTo n q → FollowsHere n (k c) asked (mades ++ (c, made kind u) ∷ [])
+    to_make : {n : ℕ} {kind : Kind} {u : Term C} {k : C → Plan C} {q : Plan D} {c : C} {d : D} → R.same c d → LikePlan R (make kind u k) q → TrailTo n q → FollowsHere n (k c) asked (mades ++ (c, made kind u) ∷ [])
     to_make {d = d} x (like_make y h) r = record { plan = _; asks = _; makes = _; trail = made_part r d; like_plan = h _ _ x; like_asks = ha; like_makes = push-named hm x (like_made y) }
 
   fewer_asked : {asked : List (C × Outcome C)} {mades : List (C × Made C)} (x : C × Outcome C) → HasLikes R Good (asked ++ x ∷ []) mades → HasLikes R Good asked mades

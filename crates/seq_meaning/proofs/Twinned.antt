@@ -1,21 +1,22 @@
 -- Two evaluations of one work give like outcomes.
-use Rattle.std.proofs.Common.{◌≡◌, ℕ, zero, suc, List, [], ◌∷◌, ◌++◌, Some, slice_get, refl, ap, sym, subst}
+use Rattle.std.proofs.Common.{◌≡◌, ℕ, zero, suc, List, [], ◌∷◌, ◌++◌, Some, slice_get, false, refl, ap, sym, subst}
 use Rattle.seq_base.specs.declared.thrown.Thrown.{Thrown}
 use Rattle.seq_values.specs.declared.words.Kind.{Kind}
 use Rattle.seq_values.specs.declared.words.Kind.TheVariants.{Lazy}
 use Rattle.seq_values.specs.Model.{Value, nil, bool, int, keyword, text, vector, function, reduced, cell, empty, cons, chunk, range, vec_seq, Values, no_values, ◌&◌, Term, Outcome, threw}
 use Rattle.clj_script.specs.Trees.{Program}
 use Rattle.seq_plan.specs.Plan.{Rules}
-use Rattle.seq_plan.specs.Alike.{Like, like_nil, like_bool, like_int, like_keyword, like_text, like_vector, like_function, like_reduced, like_cell, like_empty, like_cons, like_chunk, like_range, like_vec_seq, LikeAll, like_none, like_more, LikeList, like_end, like_item, LikeTerm, like_term, LikeOutcome, like_threw, LikePlan, LikeRules}
+use Rattle.seq_plan.specs.Alike.{Likeness, Like, like_nil, like_bool, like_int, like_keyword, like_text, like_vector, like_function, like_reduced, like_cell, like_empty, like_cons, like_chunk, like_range, like_vec_seq, LikeAll, like_none, like_more, LikeList, like_end, like_item, LikeTerm, like_term, LikeOutcome, like_threw, LikePlan, LikeRules}
 use Rattle.seq_meaning.specs.Walk.{Made, made, Run, needs, ends, makes_of}
 use Rattle.seq_meaning.specs.Alike.{like_made, LikeMakes, like_no_make, like_make_then, LikeRun, like_needs, like_ends, like_over, LikeAnswers, like_no_answer, like_answer, like_script}
 use Rattle.seq_meaning.specs.Names.{Name, part, retry}
 use Rattle.seq_meaning.specs.Gives.{in_order, Task, of_form, of_term, Work, work, task_plan, run, Of, of_part, of_retry, Part, part_of, True, no_answer, one_more, Gives, gives}
-use Rattle.seq_meaning.specs.Twins.{TwinEval, eval_here, eval_cell, eval_retry, TwinCell, cell_same, cell_part, LikeTask, like_form, like_of_term, LikeWork, like_work, Renames}
+use Rattle.seq_meaning.specs.Twins.{TwinEval, eval_here, eval_cell, eval_retry, twin_cells, cell_same, cell_part, LikeTask, like_form, like_of_term, LikeWork, like_work, Renames}
 use Rattle.seq_meaning.proofs.AlikeWalk.{like-term_plan, like-form_plan, like-walk}
 use Rattle.seq_meaning.proofs.Once.{one_of}
+use Rattle.seq_plan.proofs.FitLemmas.{unasked}
 
-module _ {C : Type 0} (R : C → C → Type 0) (same : (c : C) → R c c) where
+module _ {C : Type 0} (R : Likeness C C) (loose : R.sound ≡ false) (same : (c : C) → R.same c c) where
   mutual
     pub like_refl : (v : Value C) → Like R v v
     like_refl nil = like_nil
@@ -28,10 +29,10 @@ module _ {C : Type 0} (R : C → C → Type 0) (same : (c : C) → R c c) where
     like_refl (reduced v) = like_reduced (like_refl v)
     like_refl (cell c) = like_cell (same c)
     like_refl empty = like_empty
-    like_refl (cons xs r) = like_cons (like_all_refl xs) (like_refl r)
-    like_refl (chunk xs r) = like_chunk (like_all_refl xs) (like_refl r)
-    like_refl (range a b c) = like_range
-    like_refl (vec_seq xs at) = like_vec_seq (like_all_refl xs)
+    like_refl (cons xs r) = like_cons (unasked loose) (like_all_refl xs) (like_refl r)
+    like_refl (chunk xs r) = like_chunk (unasked loose) (like_all_refl xs) (like_refl r)
+    like_refl (range a b c) = like_range (unasked loose)
+    like_refl (vec_seq xs at) = like_vec_seq (unasked loose) (like_all_refl xs)
 
     pub like_all_refl : (xs : Values C) → LikeAll R xs xs
     like_all_refl no_values = like_none
@@ -41,7 +42,7 @@ module _ {C : Type 0} (R : C → C → Type 0) (same : (c : C) → R c c) where
   like_list_refl [] = like_end
   like_list_refl (x ∷ xs) = like_item (like_refl x) (like_list_refl xs)
 
-module _ {R : Name → Name → Type 0} where
+module _ {R : Likeness Name Name} where
   like-after : {os os' ps ps' : List (Outcome Name)} → LikeAnswers R os ps → LikeAnswers R os' ps' → LikeAnswers R (os ++ os') (ps ++ ps')
   like-after like_no_answer h = h
   like-after (like_answer o p) h = like_answer o (like-after p h)
@@ -51,16 +52,16 @@ module _ {R : Name → Name → Type 0} where
   like-in_order (like_answer o p) = like-after (like-in_order p) (like_answer o like_no_answer)
 
 module _ (rules : Rules Name) (program : Program) (limit : ℕ) where
-  like-task : {R : Name → Name → Type 0} → LikeRules R rules rules → {ds es : List (Value Name)} {t u : Task} → LikeList R ds es → LikeTask R t u → LikePlan R (task_plan rules program limit ds t) (task_plan rules program limit es u)
+  like-task : {R : Likeness Name Name} → LikeRules R rules rules → {ds es : List (Value Name)} {t u : Task} → LikeList R ds es → LikeTask R t u → LikePlan R (task_plan rules program limit ds t) (task_plan rules program limit es u)
   like-task r d (like_form {t = t}) = like-form_plan (like_script {functions = program.functions} {bodies = program.bodies} r d) t
   like-task r d (like_of_term h) = like-term_plan (like_script {functions = program.functions} {bodies = program.bodies} r d) h
 
-  pub like-run : (R : Name → Name → Type 0) → LikeRules R rules rules → (e f : Name) → ((j : ℕ) → R (part e j) (part f j)) → {w v : Work} → LikeWork R w v → {a b : List (Outcome Name)} → LikeAnswers R a b → LikeRun R (run rules program limit e w a) (run rules program limit f v b)
+  pub like-run : (R : Likeness Name Name) → LikeRules R rules rules → (e f : Name) → ((j : ℕ) → R.same (part e j) (part f j)) → {w v : Work} → LikeWork R w v → {a b : List (Outcome Name)} → LikeAnswers R a b → LikeRun R (run rules program limit e w a) (run rules program limit f v b)
   unfolding run
   like-run R r e f hc (like_work d t) h = like-walk R (like_script {functions = program.functions} {bodies = program.bodies} r d) (λ j. part e j) (λ j. part f j) hc limit (like-task r d t) 1 _ _ (like-in_order h)
 
   -- a make of a like run
-  pub like_make_at : {R : Name → Name → Type 0} {ms ns : List (Made Name)} → LikeMakes R ms ns → (j : ℕ) (kind : Kind) (t : Term Name) → slice_get ms j ≡ Some (made kind t) → (u : Term Name) × (slice_get ns j ≡ Some (made kind u)) × LikeTerm R t u
+  pub like_make_at : {R : Likeness Name Name} {ms ns : List (Made Name)} → LikeMakes R ms ns → (j : ℕ) (kind : Kind) (t : Term Name) → slice_get ms j ≡ Some (made kind t) → (u : Term Name) × (slice_get ns j ≡ Some (made kind u)) × LikeTerm R t u
   like_make_at like_no_make j kind t p = absurd cc
   like_make_at {R} (like_make_then (like_made {kind = k} {t = t'} {u = u} h) hs) zero kind t p =
       let q : k ≡ kind = cc in
@@ -68,37 +69,37 @@ module _ (rules : Rules Name) (program : Program) (limit : ℕ) where
       (u, ap (λ x. Some (made x u)) q, subst (λ x. LikeTerm R x u) r h)
   like_make_at (like_make_then h hs) (suc j) kind t p = like_make_at hs j kind t p
 
-  pub like_makes_of : {R : Name → Name → Type 0} {r s : Run Name} → LikeRun R r s → LikeMakes R (makes_of r) (makes_of s)
+  pub like_makes_of : {R : Likeness Name Name} {r s : Run Name} → LikeRun R r s → LikeMakes R (makes_of r) (makes_of s)
   like_makes_of (like_needs c ms) = ms
   like_makes_of (like_ends o ms) = ms
   like_makes_of like_over = like_no_make
 
-  pub like_need : {R : Name → Name → Type 0} {r s : Run Name} {n : Name} {ms : List (Made Name)} → LikeRun R r s → r ≡ needs n ms → (m : Name) × (ns : List (Made Name)) × (s ≡ needs m ns) × R n m
-  like_need {R} {n = n} (like_needs {c = c} {d = d} {ns = ns} h hs) p = let q : c ≡ n = cc in (d, ns, refl, subst (λ x. R x d) q h)
+  pub like_need : {R : Likeness Name Name} {r s : Run Name} {n : Name} {ms : List (Made Name)} → LikeRun R r s → r ≡ needs n ms → (m : Name) × (ns : List (Made Name)) × (s ≡ needs m ns) × R.same n m
+  like_need {R} {n = n} (like_needs {c = c} {d = d} {ns = ns} h hs) p = let q : c ≡ n = cc in (d, ns, refl, subst (λ x. R.same x d) q h)
   like_need (like_ends o ms) p = absurd cc
   like_need like_over p = absurd cc
 
-  pub like_end_at : {R : Name → Name → Type 0} {r s : Run Name} {o : Outcome Name} {ms : List (Made Name)} → LikeRun R r s → r ≡ ends o ms → (u : Outcome Name) × (ns : List (Made Name)) × (s ≡ ends u ns) × LikeOutcome R o u
+  pub like_end_at : {R : Likeness Name Name} {r s : Run Name} {o : Outcome Name} {ms : List (Made Name)} → LikeRun R r s → r ≡ ends o ms → (u : Outcome Name) × (ns : List (Made Name)) × (s ≡ ends u ns) × LikeOutcome R o u
   like_end_at (like_needs c ms) p = absurd cc
   like_end_at {R} {o = o} (like_ends {o = o'} {p = u} {ns = ns} h hs) p = let q : o' ≡ o = cc in (u, ns, refl, subst (λ x. LikeOutcome R x u) q h)
   like_end_at like_over p = absurd cc
 
-  pub like_error : {R : Name → Name → Type 0} {x : Thrown} {u : Outcome Name} → LikeOutcome R (threw x) u → u ≡ threw x
+  pub like_error : {R : Likeness Name Name} {x : Thrown} {u : Outcome Name} → LikeOutcome R (threw x) u → u ≡ threw x
   like_error like_threw = refl
 
   module _ (renames : Renames rules) (p q : Name) (w0 : Work) (at_p : (w : Work) → Of rules program limit p w → w ≡ w0) (at_q : Of rules program limit q w0) where
-    abbrev R : Name → Name → Type 0
-    R = TwinCell p q
+    abbrev R : Likeness Name Name
+    R = twin_cells p q
 
     abbrev TwinOf : Name → Work → Type 0
     TwinOf b w = (v : Work) × Of rules program limit b v × LikeWork R w v
 
     like_task_refl : (t : Task) → LikeTask R t t
     like_task_refl (of_form t) = like_form
-    like_task_refl (of_term t) = like_of_term (like_term (like_list_refl R (λ c. cell_same) t.args))
+    like_task_refl (of_term t) = like_of_term (like_term (like_list_refl R refl (λ c. cell_same) t.args))
 
     like_work_refl : (w : Work) → LikeWork R w w
-    like_work_refl (work ds t) = like_work (like_list_refl R (λ c. cell_same) ds) (like_task_refl t)
+    like_work_refl (work ds t) = like_work (like_list_refl R refl (λ c. cell_same) ds) (like_task_refl t)
 
     work_here : (w : Work) → w ≡ w0 → LikeWork R w w0
     work_here w e = subst (λ x. LikeWork R w x) e (like_work_refl w)
@@ -138,7 +139,7 @@ module _ (rules : Rules Name) (program : Program) (limit : ℕ) where
           let o = like_end_at (runs r v.2 s.2) e in
           (o.0, gives v.1 s.1 o.2, o.3)
 
-      pub twin_part_of : {a : Name} {kind : Kind} {w : Work} → Part rules program limit a kind w → {b : Name} → R a b → (v : Work) × Part rules program limit b kind v × LikeWork R w v
+      pub twin_part_of : {a : Name} {kind : Kind} {w : Work} → Part rules program limit a kind w → {b : Name} → R.same a b → (v : Work) × Part rules program limit b kind v × LikeWork R w v
       twin_part_of {w = w} d cell_same = (w, d, like_work_refl w)
       twin_part_of (part_of {j = j} {kind = kind} {t = t} of h e) (cell_part {b = b} r) =
           let v = twin_of of r in
@@ -156,5 +157,5 @@ module _ (rules : Rules Name) (program : Program) (limit : ℕ) where
       of_itself : {m : Name} {kind : Kind} {u : Work} → Part rules program limit m kind u → Of rules program limit m u
       of_itself (part_of of t r) = of_part (part_of of t r)
 
-  pub twins_run : Renames rules → (p q : Name) → {e f : Name} → TwinEval p q e f → {w v : Work} → LikeWork (TwinCell p q) w v → {a b : List (Outcome Name)} → LikeAnswers (TwinCell p q) a b → LikeRun (TwinCell p q) (run rules program limit e w a) (run rules program limit f v b)
-  twins_run renames p q {e = e} {f = f} r = like-run (TwinCell p q) (renames p q) e f (λ j. cell_part r)
+  pub twins_run : Renames rules → (p q : Name) → {e f : Name} → TwinEval p q e f → {w v : Work} → LikeWork (twin_cells p q) w v → {a b : List (Outcome Name)} → LikeAnswers (twin_cells p q) a b → LikeRun (twin_cells p q) (run rules program limit e w a) (run rules program limit f v b)
+  twins_run renames p q {e = e} {f = f} r = like-run (twin_cells p q) (renames p q) e f (λ j. cell_part r)

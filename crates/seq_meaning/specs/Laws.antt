@@ -1,19 +1,22 @@
 -- The laws over the definitions, as statements. They hold of every table of rules, but for those that ask that the rules rename.
-use Rattle.std.specs.Prelude.{◌≡◌, ℕ, suc, Bool, List, ◌∷◌, ◌++◌, length, ◌⊎◌}
+use Rattle.std.specs.Prelude.{◌≡◌, ℕ, suc, Bool, true, List, ◌∷◌, ◌++◌, length, ◌⊎◌}
 use Rattle.seq_base.specs.declared.thrown.Thrown.{Thrown}
 use Rattle.seq_values.specs.declared.words.Kind.{Kind}
 use Rattle.seq_values.specs.declared.words.Kind.TheVariants.{Lazy}
-use Rattle.seq_values.specs.Model.{Value, Outcome, gave, threw}
+use Rattle.seq_values.specs.Model.{Value, Term, Outcome, gave, threw}
 use Rattle.clj_script.specs.Trees.{Program}
 use Rattle.seq_plan.specs.Plan.{Rules, Plan, ask, give, throw}
 use Rattle.seq_plan.specs.Alike.{Tells, LikePlan}
 use Rattle.seq_plan.specs.Silent.{Silently}
+use Rattle.seq_plan.specs.Sound.{Sound, SoundList, SoundRules}
+use Rattle.seq_plan.specs.WellFormed.{Well, WellList, WellTerm}
+use Rattle.seq_plan.specs.Keeping.{KeepsRules}
 use Rattle.seq_meaning.specs.Evaluates.{Script}
 use Rattle.seq_meaning.specs.Walk.{Made, needs, ends, makes_of, walk}
 use Rattle.seq_meaning.specs.Names.{Name, part, retry}
-use Rattle.seq_meaning.specs.Gives.{Work, work, Task, in_order, script_of, task_plan, run, Of, Part, True, Gives}
+use Rattle.seq_meaning.specs.Gives.{Work, work, Task, of_term, in_order, script_of, task_plan, run, Of, Part, True, Gives}
 use Rattle.seq_meaning.specs.Alike.{LikeScript, LikeAnswers, LikeRun}
-use Rattle.seq_meaning.specs.Twins.{TwinEval, TwinCell, LikeWork, Renames}
+use Rattle.seq_meaning.specs.Twins.{TwinEval, twin_cells, LikeWork, Renames}
 use Rattle.seq_meaning.specs.Counts.{IsIn}
 use Rattle.seq_meaning.specs.Follows.{Follows, HasLikes}
 use Rattle.seq_meaning.specs.More.{OneMore, IsDefined}
@@ -58,15 +61,23 @@ MakesGrow = (rules : Rules Name) (program : Program) (limit : ℕ) (e : Name) (w
 
 -- A run in numbers is like the run in names: like plans, walked with like answers and like names for the makes, run alike. The test tells which name a number has.
 abbrev pub RunsRename : Type 0
-RunsRename = (test : ℕ → Name → Bool) (s : Script ℕ) (t : Script Name) → LikeScript (Tells test) s t → (number_of : ℕ → ℕ) (name_of : ℕ → Name) → ((j : ℕ) → Tells test (number_of j) (name_of j)) → (n : ℕ) (p : Plan ℕ) (q : Plan Name) → LikePlan (Tells test) p q → (j : ℕ) (os : List (Outcome ℕ)) (ps : List (Outcome Name)) → LikeAnswers (Tells test) os ps → LikeRun (Tells test) (walk s number_of n p j os) (walk t name_of n q j ps)
+RunsRename = (test : ℕ → Name → Bool) (s : Script ℕ) (t : Script Name) → LikeScript (Tells test) s t → (number_of : ℕ → ℕ) (name_of : ℕ → Name) → ((j : ℕ) → test (number_of j) (name_of j) ≡ true) → (n : ℕ) (p : Plan ℕ) (q : Plan Name) → LikePlan (Tells test) p q → (j : ℕ) (os : List (Outcome ℕ)) (ps : List (Outcome Name)) → LikeAnswers (Tells test) os ps → LikeRun (Tells test) (walk s number_of n p j os) (walk t name_of n q j ps)
 
 -- two evaluations of one work run alike, where the rules rename
 abbrev pub TwinsRunAlike : Type 0
-TwinsRunAlike = (rules : Rules Name) → Renames rules → (program : Program) (limit : ℕ) (p q e f : Name) → TwinEval p q e f → (w v : Work) → LikeWork (TwinCell p q) w v → (a b : List (Outcome Name)) → LikeAnswers (TwinCell p q) a b → LikeRun (TwinCell p q) (run rules program limit e w a) (run rules program limit f v b)
+TwinsRunAlike = (rules : Rules Name) → Renames rules → (program : Program) (limit : ℕ) (p q e f : Name) → TwinEval p q e f → (w v : Work) → LikeWork (twin_cells p q) w v → (a b : List (Outcome Name)) → LikeAnswers (twin_cells p q) a b → LikeRun (twin_cells p q) (run rules program limit e w a) (run rules program limit f v b)
 
 -- An attempt at a lazy part that gives an error gives that error itself, where the rules rename.
 abbrev pub RetryThrows : Type 0
 RetryThrows = (rules : Rules Name) → Renames rules → (program : Program) (limit : ℕ) (e n : Name) (w v : Work) (a : List (Outcome Name)) (ms : List (Made Name)) (x : Thrown) → Of rules program limit e w → True rules program limit e a → run rules program limit e w a ≡ needs n ms → Part rules program limit n Lazy v → Gives rules program limit n (threw x) → Gives rules program limit (retry e) (threw x)
+
+-- Where the rules keep to sound values, every evaluation that gives a value gives a sound one, and every part is of a term of sound values, with sound values of the forms before.
+abbrev pub AllIsSound : Type 0
+AllIsSound = (rules : Rules Name) → SoundRules rules → (program : Program) (limit : ℕ) → ((e : Name) (v : Value Name) → Gives rules program limit e (gave v) → Sound v) × ((n : Name) (kind : Kind) (defs : List (Value Name)) (t : Term Name) → Part rules program limit n kind (work defs (of_term t)) → SoundList defs × SoundList t.args)
+
+-- Where the rules keep to well-formed values, every evaluation that gives a value gives a well-formed one, and every part is of a well-formed term, with well-formed values of the forms before.
+abbrev pub AllIsWell : Type 0
+AllIsWell = (rules : Rules Name) → KeepsRules rules → (program : Program) (limit : ℕ) → ((e : Name) (v : Value Name) → Gives rules program limit e (gave v) → Well v) × ((n : Name) (kind : Kind) (defs : List (Value Name)) (t : Term Name) → Part rules program limit n kind (work defs (of_term t)) → WellList defs × WellTerm t)
 
 -- a trail is a part of the walk on its answers, however the further makes will be called
 abbrev pub TrailRuns : Type 0

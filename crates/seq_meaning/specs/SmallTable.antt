@@ -8,9 +8,9 @@ use Rattle.seq_values.specs.declared.words.Op.{Op}
 use Rattle.seq_values.specs.declared.words.Op.TheVariants as O
 use Rattle.seq_values.specs.declared.words.Target.{Target}
 use Rattle.seq_values.specs.declared.words.Target.TheVariants as T
-use Rattle.seq_values.specs.Model.{Value, nil, int, reduced, cell, cons, chunk, no_values, ◌&◌, values}
+use Rattle.seq_values.specs.Model.{Value, nil, int, reduced, cell, cons, no_values, ◌&◌, values}
 use Rattle.seq_plan.specs.Plan.{Plan, visit, seq, call, go, give, throw, Loop, reduce_from, print_value, print_rest, Round, ends_with, fails, visits, Rules}
-use Rattle.seq_plan.specs.Nodes.{first_of, rest_of, chunk_of, range_at, if_nil, round_at, give_value, make_term, call_each}
+use Rattle.seq_plan.specs.Nodes.{first_of, rest_of, with_items, chunk_of, range_at, if_nil, round_at, give_value, make_term, call_each}
 use Rattle.seq_plan.specs.Alike.{Tells, LikeRules}
 use Rattle.seq_meaning.specs.Names.{Name}
 use Rattle.seq_meaning.specs.Twins.{Renames}
@@ -25,19 +25,10 @@ module _ {C : Type 0} where
   abbrev pub give_int : ℤ → Plan C
   give_int n = cond (int_le (negsuc 9223372036854775807) n && int_le n (pos 9223372036854775807)) (give (int n)) (throw Overflow)
 
-  abbrev pub if_fits : ℤ → Plan C → Plan C
-  if_fits n p = cond (int_le (negsuc 9223372036854775807) n && int_le n (pos 9223372036854775807)) p (throw Overflow)
-
-  -- `+` from the left
-  abbrev pub sum_rule : ℤ → List (Value C) → Plan C
-  sum_rule n [] = give (int n)
-  sum_rule n (int m ∷ xs) = if_fits (n +ℤ m) (sum_rule (n +ℤ m) xs)
-  sum_rule n (_ ∷ xs) = throw BadType
-
   -- Map, after its seq: f of each element of a chunk, and the part for the rest; or f of the first element alone
   abbrev pub map_on : Value C → Value C → Option (List (Value C) × Value C) → Plan C
   map_on f s (Some p) =
-      call_each f [] p.0 (λ ys. make_term Lazy O.Map (f ∷ p.1 ∷ []) (λ m. give_value (chunk (values ys) (cell m))))
+      call_each f [] p.0 (λ ys. make_term Lazy O.Map (f ∷ p.1 ∷ []) (λ m. give_value (with_items (values ys) (cell m))))
   map_on f s None =
       call f (first_of s ∷ []) (λ y. make_term Lazy O.Map (f ∷ rest_of s ∷ []) (λ m. give_value (cons (y & no_values) (cell m))))
 
@@ -80,7 +71,9 @@ module _ {C : Type 0} where
   abbrev pub word_rule : Builtin → List (Value C) → Plan C
   word_rule B.Inc (int n ∷ []) = give_int (n +ℤ pos 1)
   word_rule B.Inc (_ ∷ []) = throw BadType
-  word_rule B.Plus xs = sum_rule (pos 0) xs
+  word_rule B.Plus [] = give (int (pos 0))
+  word_rule B.Plus (int m ∷ int n ∷ []) = give_int (m +ℤ n)
+  word_rule B.Plus (_ ∷ _ ∷ []) = throw BadType
   word_rule B.Map (f ∷ c ∷ []) = make_term Lazy O.Map (f ∷ c ∷ []) (λ m. give (cell m))
   word_rule B.Take (int n ∷ c ∷ []) = make_term Lazy O.Take (int n ∷ c ∷ []) (λ m. give (cell m))
   word_rule B.Take (_ ∷ _ ∷ []) = throw BadType

@@ -1,7 +1,7 @@
 //! The meaning of a program. Each function states a law over the definitions.
 #![tactic(auto)]
 
-ghost use Rattle.seq_meaning.specs.Laws.{OneWork, OnePart, OneOutcome, OneAnswer, OneOrder, RunDefined, RunGoesOn, NoneAfterThrow, MakesGrow, RunsRename, TwinsRunAlike, RetryThrows, TrailRuns, TrailNeeds, TrailGives, TrailThrows, TrailPasses, TrailInNames, TrailIsTrue};
+ghost use Rattle.seq_meaning.specs.Laws.{OneWork, OnePart, OneOutcome, OneAnswer, OneOrder, RunDefined, RunGoesOn, NoneAfterThrow, MakesGrow, RunsRename, TwinsRunAlike, RetryThrows, AllIsSound, AllIsWell, TrailRuns, TrailNeeds, TrailGives, TrailThrows, TrailPasses, TrailInNames, TrailIsTrue};
 ghost use Rattle.seq_meaning.specs.SmallTable.{SmallRenames};
 ghost use Rattle.seq_meaning.specs.Worked.{SumOfThree, OneMoreThanOne, AskedTwice, WithoutEnd};
 
@@ -63,6 +63,16 @@ pub fn law_twins_run_alike()
 /// A failing attempt at a lazy part throws what the part throws.
 pub fn law_retry_throws()
     ensures { RetryThrows }
+{}
+
+/// Where the rules keep to sound values, so does every evaluation.
+pub fn law_all_is_sound()
+    ensures { AllIsSound }
+{}
+
+/// Where the rules keep to well-formed values, so does every evaluation.
+pub fn law_all_is_well()
+    ensures { AllIsWell }
 {}
 
 /// What was walked node by node is a part of the run on the same answers.

@@ -1,25 +1,27 @@
 -- What the rules say of nodes is alike for like nodes.
-use Rattle.std.proofs.Common.{◌≡◌, ℕ, zero, suc, ◌-◌, nat_le, nat_lt, ℤ, pos, ◌+ℤ◌, ◌-ℤ◌, int_lt, unsigned_abs, Bool, true, false, cond, List, ◌++◌, length, take, drop, Option, Some, None, refl, ap, subst}
+use Rattle.std.proofs.Common.{◌≡◌, ℕ, zero, suc, ◌-◌, nat_le, nat_lt, ℤ, pos, ◌+ℤ◌, ◌-ℤ◌, int_lt, int_le, unsigned_abs, Bool, true, false, cond, List, ◌++◌, length, take, drop, Option, Some, None, refl, ap, subst}
 use Rattle.seq_values.specs.Model.{Value, empty, range, vec_seq, Values, list, values}
 use Rattle.seq_plan.specs.Plan.{Plan, Round}
+use Rattle.seq_plan.specs.Sound.{ends_cons}
+use Rattle.seq_plan.proofs.FitLemmas.{fit_at_start, both, first_of_both, second_of_both, le_next, le_stop}
 use Rattle.seq_plan.specs.Nodes.{deepest, longest, range_stop, vector_stop, ints_from, depth, depths, last_or, all_but_last, value_at, or_empty, first_of, with_heads, range_at, vector_at, rest_of, rests_of, chunk_of, if_true, if_nil, round_at, with_value, give_value, with_members, call_each, ask_each, Found, now, asks_for, no_seq, found}
-use Rattle.seq_plan.specs.Alike.{Like, like_nil, like_bool, like_int, like_keyword, like_text, like_vector, like_function, like_reduced, like_cell, like_empty, like_cons, like_chunk, like_range, like_vec_seq, LikeAll, like_none, like_more, LikeList, like_end, like_item, like_term, LikePlan, like_visit, like_ask, like_seq, like_call, like_go, like_make, like_give, like_throw, LikeRound, like_ends_with, like_fails, like_visits, like_calls_for}
+use Rattle.seq_plan.specs.Alike.{Likeness, Fit, Like, like_nil, like_bool, like_int, like_keyword, like_text, like_vector, like_function, like_reduced, like_cell, like_empty, like_cons, like_chunk, like_range, like_vec_seq, LikeAll, like_none, like_more, LikeList, like_end, like_item, like_term, LikePlan, like_visit, like_ask, like_seq, like_call, like_go, like_make, like_give, like_throw, LikeRound, like_ends_with, like_fails, like_visits, like_calls_for}
 
 -- two nodes are chunked alike, or neither is
-pub data LikeChunk {C D : Type 0} (R : C → D → Type 0) : Option (List (Value C) × Value C) → Option (List (Value D) × Value D) → Type 0 where
+pub data LikeChunk {C D : Type 0} (R : Likeness C D) : Option (List (Value C) × Value C) → Option (List (Value D) × Value D) → Type 0 where
   like_unchunked : LikeChunk R None None
   like_chunked : {xs : List (Value C)} {ys : List (Value D)} {r : Value C} {s : Value D} → LikeList R xs ys → Like R r s → LikeChunk R (Some (xs, r)) (Some (ys, s))
 
-pub data LikeFound {C D : Type 0} (R : C → D → Type 0) : Found C → Found D → Type 0 where
+pub data LikeFound {C D : Type 0} (R : Likeness C D) : Found C → Found D → Type 0 where
   like_now : {v : Value C} {w : Value D} → Like R v w → LikeFound R (now v) (now w)
-  like_asks_for : {c : C} {d : D} → R c d → LikeFound R (asks_for c) (asks_for d)
+  like_asks_for : {c : C} {d : D} → R.same c d → LikeFound R (asks_for c) (asks_for d)
   like_no_seq : LikeFound R no_seq no_seq
 
 -- the items of a vector from one place up to another, and what follows
 abbrev chunk_to : {E : Type 0} → Values E → ℕ → ℕ → Option (List (Value E) × Value E)
 chunk_to xs at stop = Some (take (stop - at) (drop at (list xs)), vector_at xs stop)
 
-module _ {C D : Type 0} {R : C → D → Type 0} where
+module _ {C D : Type 0} {R : Likeness C D} where
   mutual
     pub like-depth : {v : Value C} {w : Value D} → Like R v w → depth v ≡ depth w
     like-depth like_nil = refl
@@ -32,10 +34,10 @@ module _ {C D : Type 0} {R : C → D → Type 0} where
     like-depth (like_reduced h) = ap suc (like-depth h)
     like-depth (like_cell r) = refl
     like-depth like_empty = refl
-    like-depth (like_cons h k) = rw (like-depths h, like-depth k)
-    like-depth (like_chunk h k) = rw (like-depths h, like-depth k)
-    like-depth like_range = refl
-    like-depth (like_vec_seq h) = ap suc (like-depths h)
+    like-depth (like_cons n h k) = rw (like-depths h, like-depth k)
+    like-depth (like_chunk n h k) = rw (like-depths h, like-depth k)
+    like-depth (like_range n) = refl
+    like-depth (like_vec_seq n h) = ap suc (like-depths h)
 
     pub like-depths : {xs : Values C} {ys : Values D} → LikeAll R xs ys → depths xs ≡ depths ys
     like-depths like_none = refl
@@ -91,44 +93,48 @@ module _ {C D : Type 0} {R : C → D → Type 0} where
   like-or_empty (like_reduced h) = like_reduced h
   like-or_empty (like_cell h) = like_cell h
   like-or_empty like_empty = like_empty
-  like-or_empty (like_cons h k) = like_cons h k
-  like-or_empty (like_chunk h k) = like_chunk h k
-  like-or_empty like_range = like_range
-  like-or_empty (like_vec_seq h) = like_vec_seq h
+  like-or_empty (like_cons n h k) = like_cons n h k
+  like-or_empty (like_chunk n h k) = like_chunk n h k
+  like-or_empty (like_range n) = like_range n
+  like-or_empty (like_vec_seq n h) = like_vec_seq n h
 
-  like-with_heads : {xs : Values C} {ys : Values D} {v : Value C} {w : Value D} → LikeAll R xs ys → Like R v w → Like R (with_heads xs v) (with_heads ys w)
-  like-with_heads like_none h = like-or_empty h
-  like-with_heads (like_more p q) h = like_cons (like_more p q) h
+  like-with_heads : {xs : Values C} {ys : Values D} {v : Value C} {w : Value D} → (R.sound ≡ true → ends_cons v ≡ true) → LikeAll R xs ys → Like R v w → Like R (with_heads xs v) (with_heads ys w)
+  like-with_heads n like_none h = like-or_empty h
+  like-with_heads n (like_more p q) h = like_cons n (like_more p q) h
 
   pub like-first_of : {v : Value C} {w : Value D} → Like R v w → Like R (first_of v) (first_of w)
-  like-first_of (like_cons like_none r) = like_nil
-  like-first_of (like_cons (like_more p q) r) = like-last_or q p
-  like-first_of (like_chunk like_none r) = like_nil
-  like-first_of (like_chunk (like_more p q) r) = p
-  like-first_of like_range = like_int
-  like-first_of (like_vec_seq {at = at} h) = like-value_at (like-list h) at
+  like-first_of (like_cons n like_none r) = like_nil
+  like-first_of (like_cons n (like_more p q) r) = like-last_or q p
+  like-first_of (like_chunk n like_none r) = like_nil
+  like-first_of (like_chunk n (like_more p q) r) = p
+  like-first_of (like_range n) = like_int
+  like-first_of (like_vec_seq {at = at} n h) = like-value_at (like-list h) at
   like-first_of _ = like_nil
 
-  pub like-range_at : (from at end : ℤ) → Like R (range_at from at end) (range_at from at end)
-  like-range_at from at end = elim (int_lt at end) as (λ b. Like R (cond b (range from at end) empty) (cond b (range from at end) empty)) [ true ↦ like_range | false ↦ like_empty ]
+  like-cond_range : (b : Bool) (from at end : ℤ) → int_lt at end ≡ b → (R.sound ≡ true → int_le from at ≡ true) → Like R (cond b (range from at end) empty) (cond b (range from at end) empty)
+  like-cond_range true from at end e n = like_range (λ s. both (n s) e)
+  like-cond_range false from at end e n = like_empty
 
-  like-cond_seq : (b : Bool) {xs : Values C} {ys : Values D} (at : ℕ) → LikeAll R xs ys → Like R (cond b (vec_seq xs at) empty) (cond b (vec_seq ys at) empty)
-  like-cond_seq true at h = like_vec_seq h
-  like-cond_seq false at h = like_empty
+  pub like-range_at : (from at end : ℤ) → (R.sound ≡ true → int_le from at ≡ true) → Like R (range_at from at end) (range_at from at end)
+  like-range_at from at end n = like-cond_range (int_lt at end) from at end refl n
+
+  like-cond_seq : (b : Bool) {xs : Values C} {ys : Values D} (at : ℕ) → nat_lt at (length (list xs)) ≡ b → LikeAll R xs ys → Like R (cond b (vec_seq xs at) empty) (cond b (vec_seq ys at) empty)
+  like-cond_seq true at e h = like_vec_seq (λ s. e) h
+  like-cond_seq false at e h = like_empty
 
   pub like-vector_at : {xs : Values C} {ys : Values D} → LikeAll R xs ys → (at : ℕ) → Like R (vector_at xs at) (vector_at ys at)
   like-vector_at {xs = xs} {ys = ys} h at =
       let e : length (list xs) ≡ length (list ys) = like-length (like-list h) in
-      rw (← e) (like-cond_seq (nat_lt at (length (list xs))) at h)
+      rw (← e) (like-cond_seq (nat_lt at (length (list xs))) at refl h)
 
   pub like-rest_of : {v : Value C} {w : Value D} → Like R v w → Like R (rest_of v) (rest_of w)
-  like-rest_of (like_cons like_none r) = like_empty
-  like-rest_of (like_cons (like_more p q) r) = like-with_heads (like-all_but_last q p) r
-  like-rest_of (like_chunk like_none r) = like_empty
-  like-rest_of (like_chunk (like_more p like_none) r) = r
-  like-rest_of (like_chunk (like_more p (like_more q s)) r) = like_chunk (like_more q s) r
-  like-rest_of (like_range {from = from} {at = at} {end = end}) = like-range_at from (at +ℤ pos 1) end
-  like-rest_of (like_vec_seq {at = at} h) = like-vector_at h (suc at)
+  like-rest_of (like_cons n like_none r) = like_empty
+  like-rest_of (like_cons n (like_more p q) r) = like-with_heads n (like-all_but_last q p) r
+  like-rest_of (like_chunk n like_none r) = like_empty
+  like-rest_of (like_chunk n (like_more p like_none) r) = r
+  like-rest_of (like_chunk n (like_more p (like_more q s)) r) = like_chunk n (like_more q s) r
+  like-rest_of (like_range {from = from} {at = at} {end = end} n) = like-range_at from (at +ℤ pos 1) end (λ s. le_next from at (first_of_both _ _ (n s)))
+  like-rest_of (like_vec_seq {at = at} n h) = like-vector_at h (suc at)
   like-rest_of _ = like_empty
 
   pub like-rests_of : (n : ℕ) {v : Value C} {w : Value D} → Like R v w → Like R (rests_of n v) (rests_of n w)
@@ -143,10 +149,10 @@ module _ {C D : Type 0} {R : C → D → Type 0} where
   like-chunk_to at stop h = like_chunked (like-take (stop - at) (like-drop at (like-list h))) (like-vector_at h stop)
 
   pub like-chunk_of : (size : ℕ) {v : Value C} {w : Value D} → Like R v w → LikeChunk R (chunk_of size v) (chunk_of size w)
-  like-chunk_of size (like_chunk h k) = like_chunked (like-list h) k
-  like-chunk_of size (like_range {from = from} {at = at} {end = end}) =
-      like_chunked (like-ints_from at (unsigned_abs (range_stop size from at end -ℤ at))) (like-range_at from (range_stop size from at end) end)
-  like-chunk_of size (like_vec_seq {xs = xs} {ys = ys} {at = at} h) =
+  like-chunk_of size (like_chunk n h k) = like_chunked (like-list h) k
+  like-chunk_of size (like_range {from = from} {at = at} {end = end} n) =
+      like_chunked (like-ints_from at (unsigned_abs (range_stop size from at end -ℤ at))) (like-range_at from (range_stop size from at end) end (λ s. le_stop size from at end (first_of_both _ _ (n s)) (second_of_both (int_le from at) _ (n s))))
+  like-chunk_of size (like_vec_seq {xs = xs} {ys = ys} {at = at} n h) =
       let stop : ℕ → ℕ = vector_stop size at in
       subst (λ n. LikeChunk R (chunk_to xs at (stop (length (list xs)))) (chunk_to ys at n)) (ap stop (like-length (like-list h))) (like-chunk_to at (stop (length (list xs))) h)
   like-chunk_of size _ = like_unchunked
@@ -155,11 +161,11 @@ module _ {C D : Type 0} {R : C → D → Type 0} where
   like-found like_nil = like_now like_nil
   like-found like_empty = like_now like_nil
   like-found (like_vector like_none) = like_now like_nil
-  like-found (like_vector (like_more p q)) = like_now (like_vec_seq (like_more p q))
-  like-found (like_cons p q) = like_now (like_cons p q)
-  like-found (like_chunk p q) = like_now (like_chunk p q)
-  like-found like_range = like_now like_range
-  like-found (like_vec_seq p) = like_now (like_vec_seq p)
+  like-found (like_vector (like_more {x = x} {xs = xs} p q)) = like_now (like_vec_seq (λ s. fit_at_start x xs) (like_more p q))
+  like-found (like_cons n p q) = like_now (like_cons n p q)
+  like-found (like_chunk n p q) = like_now (like_chunk n p q)
+  like-found (like_range n) = like_now (like_range n)
+  like-found (like_vec_seq n p) = like_now (like_vec_seq n p)
   like-found (like_cell r) = like_asks_for r
   like-found _ = like_no_seq
 
@@ -193,6 +199,12 @@ module _ {C D : Type 0} {R : C → D → Type 0} where
       let e : length xs ≡ length ys = like-length p in
       rw (← e) (like-cond (nat_le (length xs) longest) (f _ _ p) like_throw)
 
+  -- the members stay the same
+  pub like-with_these : {xs : List (Value C)} {ys : List (Value D)} → LikeList R xs ys → (k : List (Value C) → Plan C) (h : List (Value D) → Plan D) → LikePlan R (k xs) (h ys) → LikePlan R (with_members xs k) (with_members ys h)
+  like-with_these {xs = xs} {ys = ys} p k h f =
+      let e : length xs ≡ length ys = like-length p in
+      rw (← e) (like-cond (nat_le (length xs) longest) f like_throw)
+
   pub like-call_each : {f : Value C} {g : Value D} → Like R f g → {xs : List (Value C)} {ys : List (Value D)} → LikeList R xs ys → {zs : List (Value C)} {us : List (Value D)} → LikeList R zs us → {k : List (Value C) → Plan C} {h : List (Value D) → Plan D} → ((vs : List (Value C)) (ws : List (Value D)) → LikeList R vs ws → LikePlan R (k vs) (h ws)) → LikePlan R (call_each f zs xs k) (call_each g us ys h)
   like-call_each hf like_end hz hk = hk _ _ hz
   like-call_each hf (like_item p q) hz hk = like_call hf (like_item p like_end) (λ v w e. like-call_each hf q (like-append hz (like_item e like_end)) hk)
@@ -203,4 +215,4 @@ module _ {C D : Type 0} {R : C → D → Type 0} where
   like-ask_each (like_item _ q) hz hk = like_throw
 
   -- A row of a rule is alike by one line over these.
-  pub ruleset made_alike = (like_visit, like_ask, like_seq, like_call, like_go, like_make, like_give, like_throw, like_term, like_item, like_end, like_nil, like_bool, like_int, like_keyword, like_text, like_vector, like_function, like_reduced, like_empty, like_cons, like_chunk, like_cell, like_more, like_none, like_ends_with, like_fails, like_visits, like_calls_for, like-if_nil, like-if_true, like-round_at, like-chunk_of, like-first_of, like-rest_of, like-call_each, like-ask_each, like-list, like-values, like-append, like-with_value, like-give_value, like-with_members)
+  pub ruleset made_alike = (like_visit, like_ask, like_seq, like_call, like_go, like_make, like_give, like_throw, like_term, like_item, like_end, like_nil, like_bool, like_int, like_keyword, like_text, like_vector, like_function, like_reduced, like_empty, like_cell, like_more, like_none, like_ends_with, like_fails, like_visits, like_calls_for, like-if_nil, like-if_true, like-round_at, like-chunk_of, like-first_of, like-rest_of, like-call_each, like-ask_each, like-list, like-values, like-append, like-with_value, like-give_value, like-with_members)

@@ -1,9 +1,9 @@
 -- Like plans that go on alike are alike.
 use Rattle.seq_values.specs.Model.{Value}
 use Rattle.seq_plan.specs.Plan.{Plan, then, Round, plan_of}
-use Rattle.seq_plan.specs.Alike.{Like, LikePlan, like_visit, like_ask, like_seq, like_call, like_go, like_make, like_give, like_throw, LikeRound, like_ends_with, like_fails, like_visits, like_calls_for}
+use Rattle.seq_plan.specs.Alike.{Likeness, Like, LikePlan, like_visit, like_ask, like_seq, like_call, like_go, like_make, like_give, like_throw, LikeRound, like_ends_with, like_fails, like_visits, like_calls_for}
 
-module _ {C D : Type 0} {R : C → D → Type 0} where
+module _ {C D : Type 0} {R : Likeness C D} where
   pub like-then : {p : Plan C} {q : Plan D} → LikePlan R p q → {k : Value C → Plan C} {h : Value D → Plan D} → ((v : Value C) (w : Value D) → Like R v w → LikePlan R (k v) (h w)) → LikePlan R (then p k) (then q h)
   like-then (like_visit p) f = like_visit (like-then p f)
   like-then (like_ask r p) f = like_ask r (λ v w e. like-then (p v w e) f)

@@ -7,29 +7,29 @@ use Rattle.seq_values.specs.declared.words.XfKind.TheVariants as X
 use Rattle.seq_values.specs.declared.words.FolderKind.TheVariants as F
 use Rattle.seq_values.specs.Model.{Value, vector, Values, no_values}
 use Rattle.seq_plan.specs.Plan.{Plan}
-use Rattle.seq_plan.specs.Alike.{Like, like_nil, like_bool, like_int, like_vector, like_function, like_reduced, LikeAll, like_none, like_more, LikeList, like_end, like_item, LikePlan, like_seq, like_call, like_go, like_give, like_throw, LikeRound, like_ends_with, like_fails, like_visits}
+use Rattle.seq_plan.specs.Alike.{Likeness, Like, like_nil, like_bool, like_int, like_vector, like_function, like_reduced, LikeAll, like_none, like_more, LikeList, like_end, like_item, LikePlan, like_seq, like_call, like_go, like_give, like_throw, LikeRound, like_ends_with, like_fails, like_visits}
 use Rattle.seq_plan.specs.Stages.{Effect, passes, passes_last, passes_each, passes_nothing, is_done, Sink, reduces, gathers, Onward, is_transducer, are_transducers, stages_of, stages_of_all, is_some_stage, has_stages, with_stages, begins_with, fresh, take_one, group_one, on_input, stage_on, is_reduced, unwrapped, output, sink_values, answer_of, outputs_of, standing, entered, each_from, enter_each, with_state, with_last, by_effect, enter, each_round, enter_round, complete}
 use Rattle.seq_plan.proofs.AlikeNodes.{like-list, like-values, like-append, like-length, like-cond, like-if_nil, like-if_true, like-round_at, like-first_of, like-rest_of, like-with_value, like-with_members}
 
-pub data LikeEffect {C D : Type 0} (R : C → D → Type 0) : Effect C → Effect D → Type 0 where
+pub data LikeEffect {C D : Type 0} (R : Likeness C D) : Effect C → Effect D → Type 0 where
   like_passes : {x : Value C} {y : Value D} → Like R x y → LikeEffect R (passes x) (passes y)
   like_passes_last : {x : Value C} {y : Value D} → Like R x y → LikeEffect R (passes_last x) (passes_last y)
   like_passes_each : {x : Value C} {y : Value D} → Like R x y → LikeEffect R (passes_each x) (passes_each y)
   like_passes_nothing : LikeEffect R passes_nothing passes_nothing
   like_is_done : LikeEffect R is_done is_done
 
-pub data LikeSink {C D : Type 0} (R : C → D → Type 0) : Sink C → Sink D → Type 0 where
+pub data LikeSink {C D : Type 0} (R : Likeness C D) : Sink C → Sink D → Type 0 where
   like_reduces : {f x : Value C} {g y : Value D} → Like R f g → Like R x y → LikeSink R (reduces f x) (reduces g y)
   like_gathers : {xs : List (Value C)} {ys : List (Value D)} → LikeList R xs ys → LikeSink R (gathers xs) (gathers ys)
 
 -- like plans go on, whatever like effects, or like sinks with like states, they are told
-abbrev pub LikeEffects : {C D : Type 0} (R : C → D → Type 0) → (Value C → Effect C → Plan C) → (Value D → Effect D → Plan D) → Type 0
+abbrev pub LikeEffects : {C D : Type 0} (R : Likeness C D) → (Value C → Effect C → Plan C) → (Value D → Effect D → Plan D) → Type 0
 LikeEffects {C} {D} R k h = (v : Value C) (w : Value D) → Like R v w → (e : Effect C) (f : Effect D) → LikeEffect R e f → LikePlan R (k v e) (h w f)
 
-abbrev pub LikeOnward : {C D : Type 0} (R : C → D → Type 0) → Onward C → Onward D → Type 0
+abbrev pub LikeOnward : {C D : Type 0} (R : Likeness C D) → Onward C → Onward D → Type 0
 LikeOnward {C} {D} R k h = (xs : List (Value C)) (ys : List (Value D)) → LikeList R xs ys → (s : Sink C) (t : Sink D) → LikeSink R s t → (done : Bool) → LikePlan R (k xs s done) (h ys t done)
 
-module _ {C D : Type 0} {R : C → D → Type 0} where
+module _ {C D : Type 0} {R : Likeness C D} where
   -- ## The stages of a transducer
 
   mutual

@@ -3,9 +3,9 @@ use Rattle.std.proofs.Common.{◌≡◌, Bool, true, false, cond, refl, subst}
 use Rattle.seq_values.specs.Model.{Value, bool}
 use Rattle.seq_plan.specs.Plan.{Round}
 use Rattle.seq_plan.specs.Nodes.{holds, is_nil}
-use Rattle.seq_plan.specs.Alike.{Like, like_nil, like_bool, LikeRound}
+use Rattle.seq_plan.specs.Alike.{Likeness, Like, like_nil, like_bool, LikeRound}
 
-module _ {C D : Type 0} {R : C → D → Type 0} where
+module _ {C D : Type 0} {R : Likeness C D} where
   pub like-is_nil : {v : Value C} {w : Value D} → Like R v w → is_nil v ≡ is_nil w
   like-is_nil like_nil = refl
   like-is_nil _ = refl

@@ -1,13 +1,13 @@
 -- The depth of a value of the code is that of the value that it stands for.
-use Rattle.std.proofs.Common.{◌≡◌, ℕ, suc, ◌+◌, max, List, [], ◌∷◌, map, refl, ap, sym, ◌∙◌, subst, rules, arith}
+use Rattle.std.proofs.Common.{◌≡◌, ℕ, suc, ◌+◌, max, List, [], ◌∷◌, map, refl, ap, sym, ◌∙◌, subst, arith}
 use Rattle.seq_values.specs.Model as M
-use Rattle.seq_values.specs.Plain.{plain, plains, node_step, value_step, function_step}
+use Rattle.seq_values.specs.Plain.{plain, node_step, value_step, function_step}
 use Rattle.seq_values.specs.Depth as D
 use Rattle.seq_values.specs.declared.value.Value.{Value, map-Value, roll-Value}
 use Rattle.seq_values.specs.declared.value.Node.{Node, map-Node, roll-Node}
 use Rattle.seq_values.specs.declared.value.FnValue.{FnValue, map-FnValue, roll-FnValue}
 use Rattle.seq_values.specs.declared.value.Node.TheOpen.{Node-F, Value-F, FnValue-F}
-use Rattle.seq_values.specs.declared.value.Node.TheFolds.{ind-Value, the_lemmas, fold-Node, fold-Value, fold-FnValue, fold-roll-Node, fold-roll-Value, fold-roll-FnValue}
+use Rattle.seq_values.specs.declared.value.Node.TheFolds.{ind-Value, fold-Node, fold-FnValue, fold-roll-Node, fold-roll-Value, fold-roll-FnValue}
 use Rattle.seq_plan.specs.Nodes.{depth, depths}
 
 abbrev plain_node : Node → M.Value ℕ

@@ -1,3 +1,11 @@
+pub mod FitLemmas
+pub mod ShallowLemmas
+pub mod WellSounds
+pub mod WellValues
+pub mod WellNodes
+pub mod WellLists
+pub mod WellStages
+pub mod WellPlans
 pub mod AlikeNodes
 pub mod AlikeTests
 pub mod AlikeLists
@@ -9,3 +17,6 @@ pub mod Depths
 pub mod AlikeStages
 pub mod StageLoops
 pub mod StageThens
+pub mod SoundByLikes
+pub mod SoundValues
+pub mod SoundNodes

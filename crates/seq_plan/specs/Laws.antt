@@ -1,11 +1,16 @@
 -- What holds of plans and of nodes, as statements. A renaming is given by a test that tells which cells are the same.
-use Rattle.std.specs.Prelude.{◌≡◌, ℕ, Bool, List, ◌∷◌}
+use Rattle.std.specs.Prelude.{◌≡◌, ℕ, Bool, true, List, ◌∷◌, Some}
 use Rattle.seq_values.specs.Model.{Value, vector, values}
 use Rattle.seq_values.specs.Depth.{depth as depth_in_code}
-use Rattle.seq_values.specs.Plain.{plain}
+use Rattle.seq_values.specs.Plain.{plain, plain_term}
+use Rattle.seq_values.specs.WellFormed.{is_well_formed}
+use Rattle.seq_values.specs.WellFormedTerms.{is_well_formed_term}
 use Rattle.seq_values.specs.declared.value.Value.{Value as Held}
+use Rattle.seq_values.specs.declared.term.Term.{Term as HeldTerm}
 use Rattle.seq_plan.specs.Plan.{Plan, then, give}
-use Rattle.seq_plan.specs.Nodes.{depth, first_of, rests_of}
+use Rattle.seq_plan.specs.Nodes.{depth, first_of, rest_of, rests_of, chunk_of, now, found}
+use Rattle.seq_plan.specs.Sound.{Sound, SoundList}
+use Rattle.seq_plan.specs.WellFormed.{Well, WellList, WellTerm}
 use Rattle.seq_plan.specs.declared.cursor.Cursor.{Cursor}
 use Rattle.seq_plan.specs.Cursors.{stands, IsFound}
 use Rattle.seq_plan.specs.Stages.{Sink, Onward, sink_values, standing, entered, enter, each_round, enter_round, complete}
@@ -40,6 +45,35 @@ CursorIsFound = (c : Cursor) → IsFound (stands c)
 -- a value of the code is as deep as the value that it stands for
 abbrev pub DepthIsPlain : Type 0
 DepthIsPlain = (v : Held) → depth (plain v) ≡ depth_in_code v
+
+-- a well-formed value of the code stands for a sound one
+abbrev pub WellFormedIsSound : Type 0
+WellFormedIsSound = (v : Held) → is_well_formed v ≡ true → Sound (plain v)
+
+-- a value of the code is well formed if and only if the value that it stands for is, and so is a term
+abbrev pub WellFormedIsWell : Type 0
+WellFormedIsWell = (v : Held) → (is_well_formed v ≡ true → Well (plain v)) × (Well (plain v) → is_well_formed v ≡ true)
+
+abbrev pub TermsAreWell : Type 0
+TermsAreWell = (t : HeldTerm) → (is_well_formed_term t ≡ true → WellTerm (plain_term t)) × (WellTerm (plain_term t) → is_well_formed_term t ≡ true)
+
+-- a well-formed value is sound
+abbrev pub WellIsSound : Type 0
+WellIsSound = (v : Value ℕ) → Well v → Sound v
+
+-- what is taken of a sound node is sound, and so is what `seq` finds
+abbrev pub SoundNodes : Type 0
+SoundNodes = (v : Value ℕ) → Sound v →
+    Sound (first_of v) × Sound (rest_of v)
+    × ((size : ℕ) (xs : List (Value ℕ)) (r : Value ℕ) → chunk_of size v ≡ Some (xs, r) → SoundList xs × Sound r)
+    × ((s : Value ℕ) → found v ≡ now s → Sound s)
+
+-- and what is taken of a well-formed node is well formed
+abbrev pub WellNodes : Type 0
+WellNodes = (v : Value ℕ) → Well v →
+    Well (first_of v) × Well (rest_of v)
+    × ((size : ℕ) (xs : List (Value ℕ)) (r : Value ℕ) → chunk_of size v ≡ Some (xs, r) → WellList xs × Well r)
+    × ((s : Value ℕ) → found v ≡ now s → Well s)
 
 -- what the loop of stages gives is handed on as it is
 abbrev pub StandingEnters : Type 0

@@ -2,6 +2,9 @@ pub mod Plan
 pub mod Nodes
 pub mod Lists
 pub mod Arguments
+pub mod Sound
+pub mod WellFormed
+pub mod Keeping
 pub mod Alike
 pub mod Stages
 pub mod Turns

@@ -4,7 +4,7 @@
 mod cursor;
 mod left;
 
-ghost use Rattle.seq_plan.specs.Laws.{ThenJoins, ThenGives, LikeIsAsDeep, LikeFirsts, LikeRests, LikeThen, CursorIsFound, DepthIsPlain, StandingEnters, RoundIsOfEach, ThenEnters, ThenCompletes};
+ghost use Rattle.seq_plan.specs.Laws.{ThenJoins, ThenGives, LikeIsAsDeep, LikeFirsts, LikeRests, LikeThen, CursorIsFound, DepthIsPlain, WellFormedIsSound, WellFormedIsWell, TermsAreWell, WellIsSound, SoundNodes, WellNodes, StandingEnters, RoundIsOfEach, ThenEnters, ThenCompletes};
 
 pub use cursor::{Cursor, Walked, cursor_at};
 pub use left::{HeadsLeft, ItemsLeft, RangeLeft, VecLeft};
@@ -47,6 +47,36 @@ pub fn law_cursor_is_found()
 /// A value of the code is as deep as the value that it stands for.
 pub fn law_depth_is_plain()
     ensures { DepthIsPlain }
+{}
+
+/// A well-formed value of the code stands for a sound one.
+pub fn law_well_formed_is_sound()
+    ensures { WellFormedIsSound }
+{}
+
+/// A value of the code is well formed if and only if the value that it stands for is.
+pub fn law_well_formed_is_well()
+    ensures { WellFormedIsWell }
+{}
+
+/// A term of the code is well formed if and only if the term that it stands for is.
+pub fn law_terms_are_well()
+    ensures { TermsAreWell }
+{}
+
+/// A well-formed value is sound.
+pub fn law_well_is_sound()
+    ensures { WellIsSound }
+{}
+
+/// What is taken of a sound node is sound.
+pub fn law_sound_nodes()
+    ensures { SoundNodes }
+{}
+
+/// What is taken of a well-formed node is well formed.
+pub fn law_well_nodes()
+    ensures { WellNodes }
 {}
 
 /// What the loop of stages gives is handed on as it is.

@@ -8,7 +8,7 @@ use Rattle.seq_values.specs.declared.words.Target.{Target}
 use Rattle.seq_values.specs.declared.words.Target.TheVariants as T
 use Rattle.seq_values.specs.Model.{Value}
 use Rattle.seq_plan.specs.Plan.{Loop, nth_from, last_from, count_from, gather_from, doall_from, every_from, some_from, equal_from, reduce_from, enter_from, drop_from, drop_while_from, parts_from, pull_from, ahead_from, print_value, print_rest}
-use Rattle.seq_plan.specs.Alike.{Like, like_function, like_none, like_more, LikeList, like_end, like_item, LikePlan, like_throw, LikeRound, like_fails, LikeRules}
+use Rattle.seq_plan.specs.Alike.{Likeness, Like, like_function, like_none, like_more, LikeList, like_end, like_item, LikePlan, like_throw, LikeRound, like_fails, LikeRules}
 use Rattle.seq_plan.proofs.AlikeNodes.{like-cond}
 use Rattle.core_fns.proofs.AlikeCore.{like-core_call, like-core_function}
 use Rattle.lazy_rules.proofs.AlikeTable.{like-walk_call, like-lazy_term, like-walk_round}
@@ -20,7 +20,7 @@ use Rattle.fold_rules.proofs.AlikeTable.{like-fold_call, like-fold_term}
 use Rattle.seq_meaning.proofs.AlikePrints.{like-value_round, like-rest_round, like-print_rule}
 use Rattle.seq_table.specs.Table.{over, reduce_row, into_row, on_word, on_call, on_term, on_loop, rules_of}
 
-module _ {C D : Type 0} {R : C → D → Type 0} where
+module _ {C D : Type 0} {R : Likeness C D} where
   like-is_reducer : {v : Value C} {w : Value D} → Like R v w → is_reducer v ≡ is_reducer w
   like-is_reducer (like_function {t = T.Folder kind} (like_more f (like_more c like_none))) = refl
   like-is_reducer (like_function {t = T.Folder kind} like_none) = refl

@@ -1,16 +1,18 @@
 -- Rows that take their collection a chunk at a time: Map and Filter.
-use Rattle.std.proofs.Common.{◌≡◌, refl, ap, sym, subst, ℕ, zero, suc, ◌+◌, ◌-◌, ◌<◌, ◌≤◌, ℤ, pos, ◌+ℤ◌, ◌-ℤ◌, ◌*ℤ◌, int_lt, int_div, unsigned_abs, nat_lt, ◌<ℤ◌, ◌≤ℤ◌, Bool, true, false, cond, List, [], ◌∷◌, ◌++◌, length, take, drop, append_assoc, append-nil, Option, Some, None, arith}
+use Rattle.std.proofs.Common.{◌≡◌, refl, ap, sym, subst, ℕ, zero, suc, ◌+◌, ◌-◌, ◌<◌, ◌≤◌, ℤ, pos, ◌+ℤ◌, ◌-ℤ◌, ◌*ℤ◌, int_lt, int_le, int_div, unsigned_abs, nat_lt, ◌<ℤ◌, ◌≤ℤ◌, Bool, true, false, cond, List, [], ◌∷◌, ◌++◌, length, take, drop, append_assoc, append-nil, Option, Some, None, arith}
 use Rattle.std.proofs.lemmas.Bool.Decides.{nat_tests}
 use Rattle.std.proofs.lemmas.Int.{ints, quot-rem, rem_below}
 use Rattle.seq_values.specs.declared.words.Op.TheVariants as O
 use Rattle.seq_values.specs.Model.{Value, nil, int, cell, empty, chunk, range, vec_seq, Values, no_values, ◌&◌, list, values, Term}
 use Rattle.seq_plan.specs.Plan.{Plan, give}
 use Rattle.seq_plan.specs.Nodes.{range_stop, vector_stop, ints_from, value_at, first_of, rest_of, range_at, vector_at, with_items, chunk_of, holds, call_each}
+use Rattle.seq_plan.specs.Sound.{Sound, sound_nil, sound_bool, sound_int, sound_keyword, sound_text, sound_vector, sound_function, sound_reduced, sound_cell, sound_empty, sound_cons, sound_chunk, sound_range, sound_vec_seq, sound_none, sound_more}
+use Rattle.seq_plan.proofs.FitLemmas.{second_of_both}
 use Rattle.seq_plan.specs.Lists.{items_and}
 use Rattle.lazy_rules.specs.Terms.{map_on, map_rule, where_true, sift, one_or_cell, sift_on, filter_rule}
 use Rattle.seq_table.specs.World.{World, Seen, ◌▸◌, SeqTo, Comes, comes_seq, comes_call, comes_make, CallTo, Begins, element}
-use Rattle.seq_table.specs.Lists.{◌▸▸◌, IsSound, sound_cons, sound_chunk, sound_range, sound_vec_seq, reach_seq, reach_rest, reach_behind, AllSound, Each, each_done, each_more, Sifted, sifted_done, sifted_in, sifted_out, Meant, of_map, of_filter, has_map, has_filter, At, shows, leads}
-use Rattle.seq_table.proofs.Seqs.{given, given_value, of_seq, front, SeqCases, at_none, at_some, seq_cases}
+use Rattle.seq_table.specs.Lists.{◌▸▸◌, ShowsSound, Each, each_done, each_more, Sifted, sifted_done, sifted_in, sifted_out, Meant, of_map, of_filter, has_map, has_filter, At, shows, leads}
+use Rattle.seq_table.proofs.Seqs.{given, given_value, seq_sound, of_seq, front, SeqCases, at_none, at_some, seq_cases}
 use Rattle.seq_table.proofs.ListRows.{one_before, nothing}
 
 -- ## Ranges
@@ -108,17 +110,28 @@ module _ {C : Type 0} (w : World C) where
   same_pair e = cc
 
   -- a chunked seq begins with its chunk
-  pub chunk_before : {s : Value C} → IsSound s → {xs : List (Value C)} {r : Value C} {l : Seen C} → chunk_of 32 s ≡ Some (xs, r) → Begins w r l → Begins w s (xs ▸▸ l)
-  chunk_before sound_cons e b = absurd cc
-  chunk_before (sound_chunk {x = x} {xs = ys} {r = r'}) {xs = xs} {r = r} {l = l} e b =
+  pub chunk_before : {s : Value C} → Sound s → {xs : List (Value C)} {r : Value C} {l : Seen C} → chunk_of 32 s ≡ Some (xs, r) → Begins w r l → Begins w s (xs ▸▸ l)
+  chunk_before sound_nil e b = absurd cc
+  chunk_before sound_bool e b = absurd cc
+  chunk_before sound_int e b = absurd cc
+  chunk_before sound_keyword e b = absurd cc
+  chunk_before sound_text e b = absurd cc
+  chunk_before (sound_vector h) e b = absurd cc
+  chunk_before (sound_function h) e b = absurd cc
+  chunk_before (sound_reduced h) e b = absurd cc
+  chunk_before sound_cell e b = absurd cc
+  chunk_before sound_empty e b = absurd cc
+  chunk_before (sound_cons n h k) e b = absurd cc
+  chunk_before (sound_chunk n sound_none k) e b = absurd cc
+  chunk_before (sound_chunk {r = r'} n (sound_more {x = x} {xs = ys} h h') k) {xs = xs} {r = r} {l = l} e b =
       let p : (x ∷ list ys, r') ≡ (xs, r) = same_pair e in
       subst (λ z. Begins w (chunk (x & ys) r') (z ▸▸ l)) (ap (λ z. z.0) p) (items_before (x & ys) (subst (λ z. Begins w z l) (sym (ap (λ z. z.1) p)) b))
-  chunk_before (sound_range {from = from} {at = at} {end = end} h) {xs = xs} {r = r} {l = l} e b =
+  chunk_before (sound_range {from = from} {at = at} {end = end} n) {xs = xs} {r = r} {l = l} e b =
       let p : (ints_from at (unsigned_abs (range_stop 32 from at end -ℤ at)), range_at from (range_stop 32 from at end) end) ≡ (xs, r) = same_pair e in
-      subst (λ z. Begins w (range from at end) (z ▸▸ l)) (ap (λ z. z.0) p) (range_before w from end at h (subst (λ z. Begins w z l) (sym (ap (λ z. z.1) p)) b))
-  chunk_before (sound_vec_seq {xs = ys} {at = at} h) {xs = xs} {r = r} {l = l} e b =
+      subst (λ z. Begins w (range from at end) (z ▸▸ l)) (ap (λ z. z.0) p) (range_before w from end at (second_of_both (int_le from at) _ n) (subst (λ z. Begins w z l) (sym (ap (λ z. z.1) p)) b))
+  chunk_before (sound_vec_seq {xs = ys} {at = at} n h) {xs = xs} {r = r} {l = l} e b =
       let p : (take (vector_stop 32 at (length (list ys)) - at) (drop at (list ys)), vector_at ys (vector_stop 32 at (length (list ys)))) ≡ (xs, r) = same_pair e in
-      subst (λ z. Begins w (vec_seq ys at) (z ▸▸ l)) (ap (λ z. z.0) p) (vector_before w ys at h (subst (λ z. Begins w z l) (sym (ap (λ z. z.1) p)) b))
+      subst (λ z. Begins w (vec_seq ys at) (z ▸▸ l)) (ap (λ z. z.0) p) (vector_before w ys at n (subst (λ z. Begins w z l) (sym (ap (λ z. z.1) p)) b))
 
   -- what a chunk of answers leads to
   pub items_at : {defs : List (Value C)} {t : Term C} (ys zs : List (Value C)) {v : Value C} → At w defs t (zs ++ ys) v → At w defs t zs (with_items (values ys) v)
@@ -145,15 +158,15 @@ module _ {C : Type 0} (w : World C) where
     abbrev map_of : Value C → Value C → Term C
     map_of f c = record { op = O.Map; args = f ∷ c ∷ [] }
 
-    module _ (f c : Value C) (sound : AllSound w c) where
+    module _ (shown : ShowsSound w) (f c : Value C) (sound : Sound c) where
       map_chunk : {s v : Value C} → SeqTo w c s → ¬ (s ≡ nil) → (xs : List (Value C)) (r : Value C) → chunk_of 32 s ≡ Some (xs, r) → (ys : List (Value C)) → CalledOn f xs ys → Comes w defs (items_and ys O.Map (f ∷ r ∷ [])) v → At w defs (map_of f c) [] v
-      map_chunk {s = s} q n xs r e ys h (comes_make {c = m} part d) = subst (λ v. At w defs (map_of f c) [] v) (given_value w (with_items (values ys) (cell m)) d) (items_at ys [] (leads refl part (has_map (λ t i. sound t (reach_behind q e i))) on))
+      map_chunk {s = s} q n xs r e ys h (comes_make {c = m} part d) = subst (λ v. At w defs (map_of f c) [] v) (given_value w (with_items (values ys) (cell m)) d) (items_at ys [] (leads refl part has_map on))
         where
           on : (l : Seen C) → Meant w defs (map_of f r) l → Meant w defs (map_of f c) (ys ▸▸ l)
-          on l (of_map b k) = of_map (of_seq w q (chunk_before (sound s (reach_seq q n)) e b)) (each_before h k)
+          on l (of_map b k) = of_map (of_seq w q (chunk_before (seq_sound w shown q sound) e b)) (each_before h k)
 
       map_some : {s v : Value C} → SeqTo w c s → ¬ (s ≡ nil) → (r : Option (List (Value C) × Value C)) → chunk_of 32 s ≡ r → Comes w defs (map_on f s r) v → At w defs (map_of f c) [] v
-      map_some {s = s} q n None e (comes_call {y = y} a d) = one_before w y O.Map (f ∷ rest_of s ∷ []) (has_map (λ t i. sound t (reach_rest q n i))) on d
+      map_some {s = s} q n None e (comes_call {y = y} a d) = one_before w y O.Map (f ∷ rest_of s ∷ []) has_map on d
         where
           on : (l : Seen C) → Meant w defs (map_of f (rest_of s)) l → Meant w defs (map_of f c) (y ▸ l)
           on l (of_map b k) = of_map (front w q n b) (each_more a k)
@@ -189,19 +202,19 @@ module _ {C : Type 0} (w : World C) where
     abbrev filter_of : Value C → Value C → Term C
     filter_of p c = record { op = O.Filter; args = p ∷ c ∷ [] }
 
-    module _ (p c : Value C) (sound : AllSound w c) where
+    module _ (shown : ShowsSound w) (p c : Value C) (sound : Sound c) where
       filter_chunk : {s v : Value C} → SeqTo w c s → ¬ (s ≡ nil) → (xs : List (Value C)) (r : Value C) → chunk_of 32 s ≡ Some (xs, r) → (ys : List (Value C)) → SiftedOn p xs ys → Comes w defs (items_and ys O.Filter (p ∷ r ∷ [])) v → At w defs (filter_of p c) [] v
-      filter_chunk {s = s} q n xs r e ys h (comes_make {c = m} part d) = subst (λ v. At w defs (filter_of p c) [] v) (given_value w (with_items (values ys) (cell m)) d) (items_at ys [] (leads refl part (has_filter (λ t i. sound t (reach_behind q e i))) on))
+      filter_chunk {s = s} q n xs r e ys h (comes_make {c = m} part d) = subst (λ v. At w defs (filter_of p c) [] v) (given_value w (with_items (values ys) (cell m)) d) (items_at ys [] (leads refl part has_filter on))
         where
           on : (l : Seen C) → Meant w defs (filter_of p r) l → Meant w defs (filter_of p c) (ys ▸▸ l)
-          on l (of_filter b k) = of_filter (of_seq w q (chunk_before (sound s (reach_seq q n)) e b)) (sifted_before h k)
+          on l (of_filter b k) = of_filter (of_seq w q (chunk_before (seq_sound w shown q sound) e b)) (sifted_before h k)
 
       filter_one : {s y v : Value C} → SeqTo w c s → ¬ (s ≡ nil) → CallTo w defs p (first_of s ∷ []) y → (b : Bool) → holds y ≡ b → Comes w defs (one_or_cell (cond b (first_of s ∷ []) []) O.Filter (p ∷ rest_of s ∷ [])) v → At w defs (filter_of p c) [] v
-      filter_one {s = s} q n a true e d = one_before w (first_of s) O.Filter (p ∷ rest_of s ∷ []) (has_filter (λ t i. sound t (reach_rest q n i))) on d
+      filter_one {s = s} q n a true e d = one_before w (first_of s) O.Filter (p ∷ rest_of s ∷ []) has_filter on d
         where
           on : (l : Seen C) → Meant w defs (filter_of p (rest_of s)) l → Meant w defs (filter_of p c) (first_of s ▸ l)
           on l (of_filter b k) = of_filter (front w q n b) (sifted_in a e k)
-      filter_one {s = s} q n a false e (comes_make {c = m} part d) = subst (λ v. At w defs (filter_of p c) [] v) (given w d) (leads refl part (has_filter (λ t i. sound t (reach_rest q n i))) on)
+      filter_one {s = s} q n a false e (comes_make {c = m} part d) = subst (λ v. At w defs (filter_of p c) [] v) (given w d) (leads refl part has_filter on)
         where
           on : (l : Seen C) → Meant w defs (filter_of p (rest_of s)) l → Meant w defs (filter_of p c) l
           on l (of_filter b k) = of_filter (front w q n b) (sifted_out a e k)

@@ -36,6 +36,7 @@ pub mod WorkedMadeScript
 pub mod MadeAnswer
 pub mod WrittenMadeScriptParts
 pub mod Seqs
+pub mod SoundCalls
 pub mod ListRows
 pub mod ListsOf
 pub mod Counted
@@ -48,3 +49,5 @@ pub mod OneCall
 pub mod PlainAlike
 pub mod OneList
 pub mod MoreRows
+pub mod WellWhole
+pub mod WellCalls

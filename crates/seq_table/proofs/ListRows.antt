@@ -13,7 +13,7 @@ use Rattle.seq_table.proofs.Seqs.{given, given_value, front, SeqCases, at_none, 
 
 module _ {C : Type 0} (w : World C) where
   -- an element before the part for the rest
-  pub one_before : {defs : List (Value C)} {t : Term C} (x : Value C) (op : Op) (xs : List (Value C)) {v : Value C} → HasList w (record { op = op; args = xs }) → ((l : Seen C) → Meant w defs (record { op = op; args = xs }) l → Meant w defs t (x ▸ l)) → Comes w defs (first_and x op xs) v → At w defs t [] v
+  pub one_before : {defs : List (Value C)} {t : Term C} (x : Value C) (op : Op) (xs : List (Value C)) {v : Value C} → HasList (record { op = op; args = xs }) → ((l : Seen C) → Meant w defs (record { op = op; args = xs }) l → Meant w defs t (x ▸ l)) → Comes w defs (first_and x op xs) v → At w defs t [] v
   one_before {defs = defs} {t = t} x op xs i f (comes_make {c = m} part d) = subst (λ v. At w defs t [] v) (given_value w (cons (x & no_values) (cell m)) d) (shows refl (λ e. cc) (leads refl part i f))
 
   pub nothing : {defs : List (Value C)} {t : Term C} {v : Value C} → Meant w defs t done → Comes w defs (give nil) v → At w defs t [] v

@@ -5,12 +5,13 @@ use Rattle.seq_values.specs.declared.words.Op.TheVariants as O
 use Rattle.seq_values.specs.Model.{Value, nil, cell, values, Term}
 use Rattle.seq_plan.specs.Plan.{Plan, give}
 use Rattle.seq_plan.specs.Nodes.{first_of, rest_of, with_items, chunk_of, make_term}
+use Rattle.seq_plan.specs.Sound.{Sound}
 use Rattle.seq_plan.specs.Lists.{first_and, items_and}
 use Rattle.lazy_rules.specs.Terms.{where_some, sift, one_or_cell, sift_on, keep_rule}
 use Rattle.ahead_rules.specs.Table.{near_rule}
 use Rattle.seq_table.specs.World.{World, Seen, ◌▸◌, SeqTo, Comes, comes_seq, comes_call, comes_make, CallTo}
-use Rattle.seq_table.specs.Lists.{◌▸▸◌, reach_seq, reach_rest, reach_behind, AllSound, Kept, kept_done, kept_in, kept_out, Meant, of_keep, of_near, has_keep, has_near, At, leads}
-use Rattle.seq_table.proofs.Seqs.{given, given_value, of_seq, front, NilOr, it_is, it_isnt, nil_or, SeqCases, at_none, at_some, seq_cases}
+use Rattle.seq_table.specs.Lists.{◌▸▸◌, ShowsSound, Kept, kept_done, kept_in, kept_out, Meant, of_keep, of_near, has_keep, has_near, At, leads}
+use Rattle.seq_table.proofs.Seqs.{given, given_value, seq_sound, of_seq, front, NilOr, it_is, it_isnt, nil_or, SeqCases, at_none, at_some, seq_cases}
 use Rattle.seq_table.proofs.ListRows.{one_before, nothing}
 use Rattle.seq_table.proofs.ChunkedRows.{chunk_before, items_at}
 
@@ -36,15 +37,15 @@ module _ {C : Type 0} (w : World C) (defs : List (Value C)) where
   abbrev keep_of : Value C → Value C → Term C
   keep_of f c = record { op = O.Keep; args = f ∷ c ∷ [] }
 
-  module _ (f c : Value C) (sound : AllSound w c) where
+  module _ (shown : ShowsSound w) (f c : Value C) (sound : Sound c) where
     keep_chunk : {s v : Value C} → SeqTo w c s → ¬ (s ≡ nil) → (xs : List (Value C)) (r : Value C) → chunk_of 32 s ≡ Some (xs, r) → (ys : List (Value C)) → KeptOn f xs ys → Comes w defs (items_and ys O.Keep (f ∷ r ∷ [])) v → At w defs (keep_of f c) [] v
-    keep_chunk {s = s} q n xs r e ys h (comes_make {c = m} part d) = subst (λ v. At w defs (keep_of f c) [] v) (given_value w (with_items (values ys) (cell m)) d) (items_at w ys [] (leads refl part (has_keep (λ t i. sound t (reach_behind q e i))) on))
+    keep_chunk {s = s} q n xs r e ys h (comes_make {c = m} part d) = subst (λ v. At w defs (keep_of f c) [] v) (given_value w (with_items (values ys) (cell m)) d) (items_at w ys [] (leads refl part has_keep on))
       where
         on : (l : Seen C) → Meant w defs (keep_of f r) l → Meant w defs (keep_of f c) (ys ▸▸ l)
-        on l (of_keep b k) = of_keep (of_seq w q (chunk_before w (sound s (reach_seq q n)) e b)) (kept_before h k)
+        on l (of_keep b k) = of_keep (of_seq w q (chunk_before w (seq_sound w shown q sound) e b)) (kept_before h k)
 
     keep_one : {s y v : Value C} → SeqTo w c s → ¬ (s ≡ nil) → CallTo w defs f (first_of s ∷ []) y → NilOr y → Comes w defs (one_or_cell (where_some (first_of s) y) O.Keep (f ∷ rest_of s ∷ [])) v → At w defs (keep_of f c) [] v
-    keep_one {s = s} {y = y} {v = v} q n a (it_isnt i e) d = one_before w y O.Keep (f ∷ rest_of s ∷ []) (has_keep (λ t j. sound t (reach_rest q n j))) on (subst (λ b. Comes w defs (one_or_cell (cond b [] (y ∷ [])) O.Keep (f ∷ rest_of s ∷ [])) v) e d)
+    keep_one {s = s} {y = y} {v = v} q n a (it_isnt i e) d = one_before w y O.Keep (f ∷ rest_of s ∷ []) has_keep on (subst (λ b. Comes w defs (one_or_cell (cond b [] (y ∷ [])) O.Keep (f ∷ rest_of s ∷ [])) v) e d)
       where
         on : (l : Seen C) → Meant w defs (keep_of f (rest_of s)) l → Meant w defs (keep_of f c) (y ▸ l)
         on l (of_keep b k) = of_keep (front w q n b) (kept_in a i k)
@@ -54,7 +55,7 @@ module _ {C : Type 0} (w : World C) (defs : List (Value C)) where
         on l (of_keep b k) = of_keep (front w q n b) (kept_out (subst (λ z. CallTo w defs f (first_of s ∷ []) z) e a) k)
 
         none : Comes w defs (one_or_cell [] O.Keep (f ∷ rest_of s ∷ [])) v → At w defs (keep_of f c) [] v
-        none (comes_make {c = m} part d) = subst (λ v. At w defs (keep_of f c) [] v) (given w d) (leads refl part (has_keep (λ t j. sound t (reach_rest q n j))) on)
+        none (comes_make {c = m} part d) = subst (λ v. At w defs (keep_of f c) [] v) (given w d) (leads refl part has_keep on)
 
     keep_some : {s v : Value C} → SeqTo w c s → ¬ (s ≡ nil) → (r : Option (List (Value C) × Value C)) → chunk_of 32 s ≡ r → Comes w defs (sift_on O.Keep where_some f s r) v → At w defs (keep_of f c) [] v
     keep_some {s = s} q n None e (comes_call {y = y} a d) = keep_one q n a (nil_or y) d

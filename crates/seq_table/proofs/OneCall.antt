@@ -1,10 +1,10 @@
 -- What a call comes to is one value but for names.
-use Rattle.std.proofs.Common.{◌≡◌, subst, ℕ, List}
+use Rattle.std.proofs.Common.{◌≡◌, refl, subst, ℕ, List}
 use Rattle.seq_values.specs.Model.{Value}
 use Rattle.clj_script.specs.Trees.{Program}
 use Rattle.seq_plan.specs.Plan.{Plan, Rules}
 use Rattle.seq_plan.specs.Nodes.{Found, now, asks_for}
-use Rattle.seq_plan.specs.Alike.{Like, LikeList, LikePlan, like_visit, like_ask, like_seq, like_call, like_go, like_make, like_give, LikeRules}
+use Rattle.seq_plan.specs.Alike.{Likeness, Like, LikeList, LikePlan, like_visit, like_ask, like_seq, like_call, like_go, like_make, like_give, LikeRules}
 use Rattle.seq_meaning.specs.Alike.{LikeScript, like_script}
 use Rattle.seq_meaning.specs.Names.{Name}
 use Rattle.seq_table.specs.World.{World, names_world, SeqTo, seq_now, seq_asked, Comes, comes_visit, comes_ask, comes_seq, comes_call, comes_go, comes_make, comes_give, CallTo, script_in}
@@ -15,11 +15,11 @@ use Rattle.seq_meaning.proofs.AlikeWalk.{like-called}
 use Rattle.seq_meaning.proofs.Twinned.{like_refl, like_list_refl}
 use Rattle.seq_table.proofs.SameCells.{same_parts, shows_alike}
 
-module _ (rules : Rules Name) (program : Program) (limit : ℕ) (renames : (R : Name → Name → Type 0) → LikeRules R rules rules) where
+module _ (rules : Rules Name) (program : Program) (limit : ℕ) (renames : (R : Likeness Name Name) → LikeRules R rules rules) where
   abbrev w : World Name
   w = names_world rules program limit
 
-  abbrev S : Name → Name → Type 0
+  abbrev S : Likeness Name Name
   S = Same rules program limit
 
   pub both_now : {f g : Found Name} {s s' : Value Name} → LikeFound S f g → f ≡ now s → g ≡ now s' → Like S s s'
@@ -30,12 +30,12 @@ module _ (rules : Rules Name) (program : Program) (limit : ℕ) (renames : (R : 
   both_now (like_asks_for r) p q = absurd cc
   both_now like_no_seq p q = absurd cc
 
-  pub both_ask : {f g : Found Name} {c d : Name} → LikeFound S f g → f ≡ asks_for c → g ≡ asks_for d → S c d
+  pub both_ask : {f g : Found Name} {c d : Name} → LikeFound S f g → f ≡ asks_for c → g ≡ asks_for d → S.same c d
   both_ask (like_now l) p q = absurd cc
   both_ask {c = c} {d = d} (like_asks_for {c = c'} {d = d'} r) p q =
       let a : c' ≡ c = cc in
       let b : d' ≡ d = cc in
-      subst (λ x. S x d) a (subst (λ y. S c' y) b r)
+      subst (λ x. S.same x d) a (subst (λ y. S.same c' y) b r)
   both_ask like_no_seq p q = absurd cc
 
   pub one_kind : {f g : Found Name} {s : Value Name} {d : Name} → LikeFound S f g → f ≡ now s → g ≡ asks_for d → ⊥
@@ -72,5 +72,5 @@ module _ (rules : Rules Name) (program : Program) (limit : ℕ) (renames : (R : 
 
   pub one_call : (ds : List (Value Name)) (f : Value Name) (xs : List (Value Name)) (y z : Value Name) → CallTo w ds f xs y → CallTo w ds f xs z → Like S y z
   one_call ds f xs y z a b =
-      let r : LikeList S ds ds = like_list_refl S (λ c. (0, same_cell)) ds in
-      like_comes a (like-called (script_like r) (like_refl S (λ c. (0, same_cell)) f) (like_list_refl S (λ c. (0, same_cell)) xs)) r b
+      let r : LikeList S ds ds = like_list_refl S refl (λ c. (0, same_cell)) ds in
+      like_comes a (like-called (script_like r) (like_refl S refl (λ c. (0, same_cell)) f) (like_list_refl S refl (λ c. (0, same_cell)) xs)) r b

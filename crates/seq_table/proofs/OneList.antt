@@ -1,10 +1,10 @@
 -- The list of a term is determined.
-use Rattle.std.proofs.Common.{◌≡◌, ℕ, ℤ, List, [], ◌∷◌}
+use Rattle.std.proofs.Common.{◌≡◌, refl, ℕ, ℤ, List, [], ◌∷◌}
 use Rattle.seq_values.specs.Model.{Value, Term}
 use Rattle.clj_script.specs.Trees.{Program}
 use Rattle.seq_plan.specs.Plan.{Rules}
 use Rattle.seq_plan.specs.Nodes.{holds}
-use Rattle.seq_plan.specs.Alike.{Like, LikeList, like_item, like_end, LikeRules}
+use Rattle.seq_plan.specs.Alike.{Likeness, Like, LikeList, like_item, like_end, LikeRules}
 use Rattle.seq_plan.proofs.AlikeNodes.{like-first_of, like-rest_of, like-found}
 use Rattle.seq_plan.proofs.AlikeTests.{like-holds}
 use Rattle.seq_meaning.specs.Names.{Name}
@@ -18,15 +18,15 @@ use Rattle.seq_table.proofs.SameCells.{shows_alike}
 use Rattle.seq_table.proofs.OneCall.{both_now, both_ask, one_kind, other_kind, script_like, like_comes}
 use Rattle.seq_table.proofs.PlainAlike.{nil_only, nil_left}
 
-module _ (rules : Rules Name) (program : Program) (limit : ℕ) (renames : (R : Name → Name → Type 0) → LikeRules R rules rules) where
+module _ (rules : Rules Name) (program : Program) (limit : ℕ) (renames : (R : Likeness Name Name) → LikeRules R rules rules) where
   abbrev w : World Name
   w = names_world rules program limit
 
-  abbrev S : Name → Name → Type 0
+  abbrev S : Likeness Name Name
   S = Same rules program limit
 
   itself : (v : Value Name) → Like S v v
-  itself v = like_refl S (λ c. (0, same_cell)) v
+  itself v = like_refl S refl (λ c. (0, same_cell)) v
 
   begins_agree : {v : Value Name} {l : Seen Name} → Begins w v l → {u : Value Name} {l' : Seen Name} → Begins w u l' → Like S v u → Agree S l l'
   begins_agree not_read b' h = first_cut
@@ -61,7 +61,7 @@ module _ (rules : Rules Name) (program : Program) (limit : ℕ) (renames : (R : 
   module _ (ds : List (Value Name)) (f : Value Name) where
     call_like : {x x' y y' : Value Name} → CallTo w ds f (x ∷ []) y → CallTo w ds f (x' ∷ []) y' → Like S x x' → Like S y y'
     call_like c c' h =
-        let r : LikeList S ds ds = like_list_refl S (λ c. (0, same_cell)) ds in
+        let r : LikeList S ds ds = like_list_refl S refl (λ c. (0, same_cell)) ds in
         like_comes rules program limit renames c (like-called (script_like rules program limit renames r) (itself f) (like_item h like_end)) r c'
 
     each_agree : {l l' m m' : Seen Name} → Each w ds f l m → Each w ds f l' m' → Agree S l l' → Agree S m m'
@@ -193,12 +193,12 @@ module _ (rules : Rules Name) (program : Program) (limit : ℕ) (renames : (R : 
   cycled_agree {whole = whole} (cycled_none b) (cycled_again b' e') a = elim (begins_agree b b' (itself whole)) [ ]
   cycled_agree (cycled_none b) (cycled_none b') a = both_done
 
-  meant_agree : {ds : List (Value Name)} {t : Term Name} {l l' : Seen Name} → HasList w t → Meant w ds t l → Meant w ds t l' → Agree S l l'
-  meant_agree {ds = ds} (has_map s) (of_map {f = f} {c = c} b e) (of_map b' e') = each_agree ds f e e' (begins_agree b b' (itself c))
-  meant_agree {ds = ds} (has_filter s) (of_filter {p = f} {c = c} b e) (of_filter b' e') = sifted_agree ds f e e' (begins_agree b b' (itself c))
-  meant_agree {ds = ds} (has_mapcat s) (of_mapcat {f = f} {c = c} b e) (of_mapcat b' e') = spread_agree ds f e e' (begins_agree b b' (itself c))
-  meant_agree (has_concat s) (of_concat j) (of_concat j') = joined_agree j j'
-  meant_agree {ds = ds} (has_keep s) (of_keep {f = f} {c = c} b e) (of_keep b' e') = kept_agree ds f e e' (begins_agree b b' (itself c))
+  meant_agree : {ds : List (Value Name)} {t : Term Name} {l l' : Seen Name} → HasList t → Meant w ds t l → Meant w ds t l' → Agree S l l'
+  meant_agree {ds = ds} has_map (of_map {f = f} {c = c} b e) (of_map b' e') = each_agree ds f e e' (begins_agree b b' (itself c))
+  meant_agree {ds = ds} has_filter (of_filter {p = f} {c = c} b e) (of_filter b' e') = sifted_agree ds f e e' (begins_agree b b' (itself c))
+  meant_agree {ds = ds} has_mapcat (of_mapcat {f = f} {c = c} b e) (of_mapcat b' e') = spread_agree ds f e e' (begins_agree b b' (itself c))
+  meant_agree has_concat (of_concat j) (of_concat j') = joined_agree j j'
+  meant_agree {ds = ds} has_keep (of_keep {f = f} {c = c} b e) (of_keep b' e') = kept_agree ds f e e' (begins_agree b b' (itself c))
   meant_agree has_near (of_near {c = c} b) (of_near b') = begins_agree b b' (itself c)
   meant_agree has_take (of_take {c = c} b e) (of_take b' e') = taken_agree e e' (begins_agree b b' (itself c))
   meant_agree {ds = ds} has_take_while (of_take_while {p = f} {c = c} b e) (of_take_while b' e') = while_agree ds f e e' (begins_agree b b' (itself c))
@@ -208,7 +208,7 @@ module _ (rules : Rules Name) (program : Program) (limit : ℕ) (renames : (R : 
   meant_agree has_repeat (of_repeat e) (of_repeat e') = repeated_agree e e'
   meant_agree has_cycle (of_cycle {c = c} b e) (of_cycle b' e') = cycled_agree e e' (begins_agree b b' (itself c))
 
-  pub one_list : {ds : List (Value Name)} {t : Term Name} {l l' : Seen Name} → HasList w t → InList w ds t l → InList w ds t l' → Agree S l l'
+  pub one_list : {ds : List (Value Name)} {t : Term Name} {l l' : Seen Name} → HasList t → InList w ds t l → InList w ds t l' → Agree S l l'
   one_list i nothing_read h = first_cut
   one_list i (so_far m c) nothing_read = second_cut
   one_list i (so_far m c) (so_far m' c') = cut_agree c c' (meant_agree i m m')

@@ -3,31 +3,31 @@ use Rattle.std.proofs.Common.{◌≡◌, refl, ap, ◌∙◌, ℕ}
 use Rattle.seq_values.specs.Model.{Value, nil, Values}
 use Rattle.clj_script.specs.Trees.{Program}
 use Rattle.seq_plan.specs.Plan.{Rules}
-use Rattle.seq_plan.specs.Alike.{Like, like_nil, like_bool, like_int, like_keyword, like_text, like_reduced, like_function, LikeAll, like_none, like_more, LikeRules}
+use Rattle.seq_plan.specs.Alike.{Likeness, Like, like_nil, like_bool, like_int, like_keyword, like_text, like_reduced, like_function, like_cell, LikeAll, like_none, like_more, LikeRules}
 use Rattle.seq_plan.proofs.AlikeNodes.{like-first_of, like-rest_of, like-found}
 use Rattle.seq_meaning.specs.Names.{Name}
 use Rattle.seq_table.specs.World.{World, names_world, Seen, cut, done, ◌▸◌, IsWide, wide_cut, wide_done, wide_more, Begins, not_read, asked, at_end, element, elements}
 use Rattle.seq_table.specs.Same.{Same}
-use Rattle.seq_table.specs.Plains.{Plain, plain_function, plain_reduced, plain_list, Plains, ◌then◌, PlainOf, of_nil, of_bool, of_int, of_keyword, of_text, of_reduced, of_function, of_list, of_deep, PlainAll, all_none, all_more, PlainSeen, seen_cut, seen_done, seen_more}
+use Rattle.seq_table.specs.Plains.{Plain, plain_function, plain_reduced, plain_list, Plains, ◌then◌, PlainOf, of_nil, of_bool, of_int, of_keyword, of_text, of_reduced, of_function, of_list, of_deep, of_cell, PlainAll, all_none, all_more, PlainSeen, seen_cut, seen_done, seen_more}
 use Rattle.seq_table.proofs.SameCells.{shows_alike}
 use Rattle.seq_table.proofs.OneCall.{both_now, both_ask, one_kind, other_kind}
 
-pub data LikeSeen (R : Name → Name → Type 0) : Seen Name → Seen Name → Type 0 where
+pub data LikeSeen (R : Likeness Name Name) : Seen Name → Seen Name → Type 0 where
   like_cut : LikeSeen R cut cut
   like_done : LikeSeen R done done
   like_seen : {x y : Value Name} {l m : Seen Name} → Like R x y → LikeSeen R l m → LikeSeen R (x ▸ l) (y ▸ m)
 
-module _ (rules : Rules Name) (program : Program) (limit : ℕ) (renames : (R : Name → Name → Type 0) → LikeRules R rules rules) where
+module _ (rules : Rules Name) (program : Program) (limit : ℕ) (renames : (R : Likeness Name Name) → LikeRules R rules rules) where
   abbrev w : World Name
   w = names_world rules program limit
 
-  abbrev S : Name → Name → Type 0
+  abbrev S : Likeness Name Name
   S = Same rules program limit
 
-  pub nil_only : {R : Name → Name → Type 0} {s : Value Name} → Like R nil s → s ≡ nil
+  pub nil_only : {R : Likeness Name Name} {s : Value Name} → Like R nil s → s ≡ nil
   nil_only like_nil = refl
 
-  pub nil_left : {R : Name → Name → Type 0} {s : Value Name} → Like R s nil → s ≡ nil
+  pub nil_left : {R : Likeness Name Name} {s : Value Name} → Like R s nil → s ≡ nil
   nil_left like_nil = refl
 
   -- like values show like elements
@@ -129,6 +129,25 @@ module _ (rules : Rules Name) (program : Program) (limit : ℕ) (renames : (R : 
     plain_alike (of_function a) of_keyword h = elim h [ ]
     plain_alike (of_function a) of_text h = elim h [ ]
     plain_alike (of_function a) (of_reduced b) h = elim h [ ]
+    plain_alike (of_cell g a) (of_cell g' b) (like_cell k) = plain_alike a b (shows_alike rules program limit renames k g g')
+    plain_alike (of_cell g a) (of_list s e k) (like_cell h) = elim s [ ]
+    plain_alike (of_cell g a) (of_deep s) (like_cell h) = elim s [ ]
+    plain_alike (of_list s e k) (of_cell g b) (like_cell h) = elim s [ ]
+    plain_alike (of_deep s) (of_cell g b) (like_cell h) = elim s [ ]
+    plain_alike (of_cell g a) of_nil h = elim h [ ]
+    plain_alike (of_cell g a) of_bool h = elim h [ ]
+    plain_alike (of_cell g a) of_int h = elim h [ ]
+    plain_alike (of_cell g a) of_keyword h = elim h [ ]
+    plain_alike (of_cell g a) of_text h = elim h [ ]
+    plain_alike (of_cell g a) (of_reduced b) h = elim h [ ]
+    plain_alike (of_cell g a) (of_function b) h = elim h [ ]
+    plain_alike of_nil (of_cell g b) h = elim h [ ]
+    plain_alike of_bool (of_cell g b) h = elim h [ ]
+    plain_alike of_int (of_cell g b) h = elim h [ ]
+    plain_alike of_keyword (of_cell g b) h = elim h [ ]
+    plain_alike of_text (of_cell g b) h = elim h [ ]
+    plain_alike (of_reduced a) (of_cell g b) h = elim h [ ]
+    plain_alike (of_function a) (of_cell g b) h = elim h [ ]
 
     all_alike : {m d : ℕ} {xs : Values Name} {ps : Plains} → PlainAll w m d xs ps → {ys : Values Name} {qs : Plains} → PlainAll w m d ys qs → LikeAll S xs ys → ps ≡ qs
     all_alike all_none all_none like_none = refl

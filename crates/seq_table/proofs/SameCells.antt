@@ -4,7 +4,7 @@ use Rattle.seq_values.specs.declared.words.Kind.{Kind}
 use Rattle.seq_values.specs.Model.{Value, Values, Term, Outcome, gave}
 use Rattle.clj_script.specs.Trees.{Program}
 use Rattle.seq_plan.specs.Plan.{Rules}
-use Rattle.seq_plan.specs.Alike.{Like, like_nil, like_bool, like_int, like_keyword, like_text, like_vector, like_function, like_reduced, like_cell, like_empty, like_cons, like_chunk, like_range, like_vec_seq, LikeAll, like_none, like_more, LikeList, like_end, like_item, LikeTerm, like_term, LikeOutcome, like_gave, LikeRules}
+use Rattle.seq_plan.specs.Alike.{Likeness, by, Like, like_nil, like_bool, like_int, like_keyword, like_text, like_vector, like_function, like_reduced, like_cell, like_empty, like_cons, like_chunk, like_range, like_vec_seq, LikeAll, like_none, like_more, LikeList, like_end, like_item, LikeTerm, like_term, LikeOutcome, like_gave, LikeRules}
 use Rattle.seq_meaning.specs.Walk.{made, makes_of}
 use Rattle.seq_meaning.specs.Alike.{LikeRun, LikeAnswers, like_no_answer, like_answer}
 use Rattle.seq_meaning.specs.Names.{Name}
@@ -27,7 +27,7 @@ module _ {B B' : Name → Name → Type 0} (more : (a b : Name) → B a b → B'
     more-cell (base_cell x) = base_cell (more _ _ x)
     more-cell (part_over e) = part_over (more-eval e)
 
-module _ (rules : Rules Name) (program : Program) (limit : ℕ) (renames : (R : Name → Name → Type 0) → LikeRules R rules rules) where
+module _ (rules : Rules Name) (program : Program) (limit : ℕ) (renames : (R : Likeness Name Name) → LikeRules R rules rules) where
   base_up : (k : ℕ) (a b : Name) → Base rules program limit k a b → Base rules program limit (suc k) a b
   base_up zero a b x = absurd x
   base_up (suc k) a b (like_parts p q l t) = like_parts p q (more-list (λ c d. more-cell (base_up k)) l) (more-term (λ c d. more-cell (base_up k)) t)
@@ -36,14 +36,14 @@ module _ (rules : Rules Name) (program : Program) (limit : ℕ) (renames : (R : 
   base_more k zero a b x = let e : k ≡ 0 + k = omega arith in subst (λ n. Base rules program limit n a b) e x
   base_more k (suc m) a b x = let e : suc (m + k) ≡ suc m + k = omega arith in subst (λ n. Base rules program limit n a b) e (base_up (m + k) a b (base_more k m a b x))
 
-  abbrev R : ℕ → Name → Name → Type 0
-  R k = SameIn rules program limit k
+  abbrev R : ℕ → Likeness Name Name
+  R k = by (SameIn rules program limit k)
 
-  up_r : (k m : ℕ) (a b : Name) → R m a b → R (k + m) a b
+  up_r : (k m : ℕ) (a b : Name) → SameIn rules program limit m a b → SameIn rules program limit (k + m) a b
   up_r k m a b = more-cell (base_more m k)
 
-  up_l : (k m : ℕ) (a b : Name) → R k a b → R (k + m) a b
-  up_l k m a b x = let e : m + k ≡ k + m = omega arith in subst (λ n. R n a b) e (up_r m k a b x)
+  up_l : (k m : ℕ) (a b : Name) → SameIn rules program limit k a b → SameIn rules program limit (k + m) a b
+  up_l k m a b x = let e : m + k ≡ k + m = omega arith in subst (λ n. SameIn rules program limit n a b) e (up_r m k a b x)
 
   -- finitely many cells are the same in one number of rounds
   mutual
@@ -54,13 +54,13 @@ module _ (rules : Rules Name) (program : Program) (limit : ℕ) (renames : (R : 
     in_one-value like_keyword = (0, like_keyword)
     in_one-value like_text = (0, like_text)
     in_one-value (like_reduced h) = let a = in_one-value h in (a.0, like_reduced a.1)
-    in_one-value (like_vec_seq h) = let a = in_one-all h in (a.0, like_vec_seq a.1)
+    in_one-value (like_vec_seq n h) = let a = in_one-all h in (a.0, like_vec_seq n a.1)
     in_one-value (like_vector h) = let a = in_one-all h in (a.0, like_vector a.1)
     in_one-value (like_function h) = let a = in_one-all h in (a.0, like_function a.1)
     in_one-value like_empty = (0, like_empty)
-    in_one-value (like_cons h k) = let a = in_one-all h in let b = in_one-value k in (a.0 + b.0, like_cons (more-all (up_l a.0 b.0) a.1) (more-value (up_r a.0 b.0) b.1))
-    in_one-value (like_chunk h k) = let a = in_one-all h in let b = in_one-value k in (a.0 + b.0, like_chunk (more-all (up_l a.0 b.0) a.1) (more-value (up_r a.0 b.0) b.1))
-    in_one-value like_range = (0, like_range)
+    in_one-value (like_cons n h k) = let a = in_one-all h in let b = in_one-value k in (a.0 + b.0, like_cons n (more-all (up_l a.0 b.0) a.1) (more-value (up_r a.0 b.0) b.1))
+    in_one-value (like_chunk n h k) = let a = in_one-all h in let b = in_one-value k in (a.0 + b.0, like_chunk n (more-all (up_l a.0 b.0) a.1) (more-value (up_r a.0 b.0) b.1))
+    in_one-value (like_range n) = (0, like_range n)
     in_one-value (like_cell r) = (r.0, like_cell r.1)
 
     in_one-all : {v u : Values Name} → LikeAll (Same rules program limit) v u → (k : ℕ) × LikeAll (R k) v u
@@ -75,7 +75,7 @@ module _ (rules : Rules Name) (program : Program) (limit : ℕ) (renames : (R : 
   in_one-term (like_term h) = let a = in_one-list h in (a.0, like_term a.1)
 
   -- parts of like terms are the same
-  pub same_parts : {c d : Name} {kind : Kind} {ds es : List (Value Name)} {t u : Term Name} → Part rules program limit c kind (work ds (of_term t)) → Part rules program limit d kind (work es (of_term u)) → LikeList (Same rules program limit) ds es → LikeTerm (Same rules program limit) t u → Same rules program limit c d
+  pub same_parts : {c d : Name} {kind : Kind} {ds es : List (Value Name)} {t u : Term Name} → Part rules program limit c kind (work ds (of_term t)) → Part rules program limit d kind (work es (of_term u)) → LikeList (Same rules program limit) ds es → LikeTerm (Same rules program limit) t u → (Same rules program limit).same c d
   same_parts p q l h =
       let a = in_one-list l in
       let b = in_one-term h in
@@ -104,10 +104,10 @@ module _ (rules : Rules Name) (program : Program) (limit : ℕ) (renames : (R : 
   module _ (k : ℕ) where
     task_refl : (t : Task) → LikeTask (R k) t t
     task_refl (of_form t) = like_form
-    task_refl (of_term t) = like_of_term (like_term (like_list_refl (R k) (λ c. same_cell) t.args))
+    task_refl (of_term t) = like_of_term (like_term (like_list_refl (R k) refl (λ c. same_cell) t.args))
 
     work_refl : (w : Work) → LikeWork (R k) w w
-    work_refl (work ds t) = like_work (like_list_refl (R k) (λ c. same_cell) ds) (task_refl t)
+    work_refl (work ds t) = like_work (like_list_refl (R k) refl (λ c. same_cell) ds) (task_refl t)
 
     runs : {a b : Name} → EvalOver (Base rules program limit k) a b → {w v : Work} → LikeWork (R k) w v → {os ps : List (Outcome Name)} → LikeAnswers (R k) os ps → LikeRun (R k) (run rules program limit a w os) (run rules program limit b v ps)
     runs {a = a} {b = b} r = like-run rules program limit (R k) (renames (R k)) a b (λ j. part_over r)
@@ -144,7 +144,7 @@ module _ (rules : Rules Name) (program : Program) (limit : ℕ) (renames : (R : 
           let o = like_end_at rules program limit (runs r v.2 s.2) e in
           (o.0, gives v.1 s.1 o.2, o.3)
 
-      same_part : {a : Name} {kind : Kind} {w : Work} → Part rules program limit a kind w → {b : Name} → R k a b → AsPart k b kind w
+      same_part : {a : Name} {kind : Kind} {w : Work} → Part rules program limit a kind w → {b : Name} → SameIn rules program limit k a b → AsPart k b kind w
       same_part {w = w} d same_cell = (w, d, work_refl w)
       same_part d (base_cell x) = base_part k x d
       same_part (part_of {j = j} {kind = kind} {t = t} of h e) (part_over {b = b} r) =
@@ -155,7 +155,7 @@ module _ (rules : Rules Name) (program : Program) (limit : ℕ) (renames : (R : 
           (work q.0 (of_term m.0), part_of (subst (λ x. Of rules program limit b x) q.2 v.1) s.1 (subst (λ x. slice_get (makes_of (run rules program limit b x s.0)) j ≡ Some (made kind m.0)) q.2 m.1), q.3)
 
   -- the same cells show like values
-  pub shows_alike : {c d : Name} {v u : Value Name} → Same rules program limit c d → Gives rules program limit c (gave v) → Gives rules program limit d (gave u) → Like (Same rules program limit) v u
+  pub shows_alike : {c d : Name} {v u : Value Name} → (Same rules program limit).same c d → Gives rules program limit c (gave v) → Gives rules program limit d (gave u) → Like (Same rules program limit) v u
   shows_alike {d = d} {v = v} {u = u} r g h = by (same_gives r.0 g (eval_over r.1))
     where
       of_gave : (k : ℕ) {v u : Value Name} {o : Outcome Name} → LikeOutcome (R k) (gave v) o → o ≡ gave u → Like (R k) v u

@@ -3,7 +3,10 @@ use Rattle.std.proofs.Common.{◌≡◌, refl, ap, subst, ◌∙◌, nat_le, Boo
 use Rattle.seq_values.specs.Model.{Value, nil, bool, int, keyword, text, vector, function, reduced, cell, empty, cons, chunk, range, vec_seq, no_values, ◌&◌}
 use Rattle.seq_plan.specs.Plan.{Plan, give, throw}
 use Rattle.seq_base.specs.declared.thrown.Thrown.TheVariants.{Depth}
-use Rattle.seq_plan.specs.Nodes.{first_of, rest_of, depth, deepest, is_nil, if_nil, give_value, now, found}
+use Rattle.seq_plan.specs.Nodes.{first_of, rest_of, depth, deepest, is_nil, if_nil, give_value, Found, now, found}
+use Rattle.seq_plan.specs.Sound.{Sound}
+use Rattle.seq_plan.proofs.SoundNodes.{found_sound}
+use Rattle.seq_table.specs.Lists.{ShowsSound}
 use Rattle.seq_table.specs.World.{World, Seen, done, ◌▸◌, SeqTo, seq_now, seq_asked, Comes, comes_give, Begins, not_read, asked, at_end, element}
 
 module _ {C : Type 0} where
@@ -60,6 +63,11 @@ module _ {C : Type 0} (w : World C) where
   pub seq_found : {x s : Value C} → SeqTo w x s → found s ≡ now s
   seq_found (seq_now {v = v} q) = found_now v q
   seq_found (seq_asked q s r) = seq_found r
+
+  -- the seq of a sound collection is sound
+  pub seq_sound : ShowsSound w → {x s : Value C} → SeqTo w x s → Sound x → Sound s
+  seq_sound shown (seq_now q) h = found_sound h q
+  seq_sound shown (seq_asked q s r) h = seq_sound shown r (shown _ _ s)
 
   -- the elements of a seq are those of its collection
   pub of_seq : {x s : Value C} {l : Seen C} → SeqTo w x s → Begins w s l → Begins w x l

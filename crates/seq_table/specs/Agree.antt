@@ -1,10 +1,10 @@
 -- Two lists as far as both are read: one goes on where the other was cut, and their elements are related.
 use Rattle.seq_values.specs.Model.{Value}
-use Rattle.seq_plan.specs.Alike.{Like}
+use Rattle.seq_plan.specs.Alike.{Likeness, Like}
 use Rattle.seq_meaning.specs.Names.{Name}
 use Rattle.seq_table.specs.World.{Seen, cut, done, ◌▸◌}
 
-pub data Agree (R : Name → Name → Type 0) : Seen Name → Seen Name → Type 0 where
+pub data Agree (R : Likeness Name Name) : Seen Name → Seen Name → Type 0 where
   first_cut : {l : Seen Name} → Agree R cut l
   second_cut : {l : Seen Name} → Agree R l cut
   both_done : Agree R done done

@@ -1,12 +1,15 @@
 -- Laws of the language: what evaluations give is what their plans come to, and a program has one output.
 use Rattle.std.specs.Prelude.{◌≡◌, ℕ, ◌≤◌, pos, List}
+use Rattle.seq_values.specs.declared.words.Kind.{Kind}
 use Rattle.seq_values.specs.Model.{Value, Term, gave}
 use Rattle.clj_script.specs.Trees.{Program}
 use Rattle.seq_plan.specs.Plan.{give}
 use Rattle.fold_rules.specs.Table.{fold_items}
 use Rattle.seq_meaning.specs.Names.{Name}
-use Rattle.seq_meaning.specs.Gives.{Task, of_term, work, task_plan, Of, Gives}
+use Rattle.seq_meaning.specs.Gives.{Task, of_term, work, task_plan, Of, Part, Gives}
 use Rattle.seq_plan.specs.Alike.{Like}
+use Rattle.seq_plan.specs.Sound.{Sound, SoundList}
+use Rattle.seq_plan.specs.WellFormed.{Well, WellList, WellTerm}
 use Rattle.seq_table.specs.Plains.{AreAlike}
 use Rattle.seq_table.specs.Agree.{Agree}
 use Rattle.seq_table.specs.Same.{Same}
@@ -30,7 +33,23 @@ FoldIsTree = (processors : ℕ) (program : Program) (limit : ℕ) (defs : List (
 
 -- What an evaluation of a term gives begins as the list that the term stands for, for the terms of `HasList`. Each part that is read on the way gives a value.
 abbrev pub ListsOfTerms : Type 0
-ListsOfTerms = (processors : ℕ) (program : Program) (limit : ℕ) (e : Name) (defs : List (Value Name)) (t : Term Name) (v : Value Name) (l : Seen Name) → HasList (names_world (language processors) program limit) t → Of (language processors) program limit e (work defs (of_term t)) → Gives (language processors) program limit e (gave v) → Begins (names_world (language processors) program limit) v l → InList (names_world (language processors) program limit) defs t l
+ListsOfTerms = (processors : ℕ) (program : Program) (limit : ℕ) (e : Name) (defs : List (Value Name)) (t : Term Name) (v : Value Name) (l : Seen Name) → HasList t → Of (language processors) program limit e (work defs (of_term t)) → Gives (language processors) program limit e (gave v) → Begins (names_world (language processors) program limit) v l → InList (names_world (language processors) program limit) defs t l
+
+-- Every evaluation of a program that gives a value gives a sound one, and every part is of a term of sound values, with sound values of the forms before.
+abbrev pub RunsAreSound : Type 0
+RunsAreSound = (processors : ℕ) (program : Program) (limit : ℕ) → ((e : Name) (v : Value Name) → Gives (language processors) program limit e (gave v) → Sound v) × ((n : Name) (kind : Kind) (defs : List (Value Name)) (t : Term Name) → Part (language processors) program limit n kind (work defs (of_term t)) → SoundList defs × SoundList t.args)
+
+-- Every evaluation of a program that gives a value gives a well-formed one, and every part is of a well-formed term, with well-formed values of the forms before.
+abbrev pub RunsAreWell : Type 0
+RunsAreWell = (processors : ℕ) (program : Program) (limit : ℕ) → ((e : Name) (v : Value Name) → Gives (language processors) program limit e (gave v) → Well v) × ((n : Name) (kind : Kind) (defs : List (Value Name)) (t : Term Name) → Part (language processors) program limit n kind (work defs (of_term t)) → WellList defs × WellTerm t)
+
+-- What a call of sound values comes to is sound.
+abbrev pub CallsAreSound : Type 0
+CallsAreSound = (processors : ℕ) (program : Program) (limit : ℕ) (defs : List (Value Name)) (f : Value Name) (xs : List (Value Name)) (y : Value Name) → SoundList defs → Sound f → SoundList xs → CallTo (names_world (language processors) program limit) defs f xs y → Sound y
+
+-- What a call of well-formed values comes to is well formed.
+abbrev pub CallsAreWell : Type 0
+CallsAreWell = (processors : ℕ) (program : Program) (limit : ℕ) (defs : List (Value Name)) (f : Value Name) (xs : List (Value Name)) (y : Value Name) → WellList defs → Well f → WellList xs → CallTo (names_world (language processors) program limit) defs f xs y → Well y
 
 -- What a call comes to is one value but for names, wherever it is run.
 abbrev pub OneCall : Type 0
@@ -42,4 +61,4 @@ LikeIsAlike = (processors : ℕ) (program : Program) (limit : ℕ) (y z : Value 
 
 -- The list of such a term is determined, as far as it is read.
 abbrev pub OneList : Type 0
-OneList = (processors : ℕ) (program : Program) (limit : ℕ) (defs : List (Value Name)) (t : Term Name) (l m : Seen Name) → HasList (names_world (language processors) program limit) t → InList (names_world (language processors) program limit) defs t l → InList (names_world (language processors) program limit) defs t m → Agree (Same (language processors) program limit) l m
+OneList = (processors : ℕ) (program : Program) (limit : ℕ) (defs : List (Value Name)) (t : Term Name) (l m : Seen Name) → HasList t → InList (names_world (language processors) program limit) defs t l → InList (names_world (language processors) program limit) defs t m → Agree (Same (language processors) program limit) l m

@@ -1,18 +1,18 @@
 -- The list that a term stands for, where no call and no ask throws. Chunks, demand and step counts play no part in it.
-use Rattle.std.specs.Prelude.{◌≡◌, ◌<◌, ℤ, pos, ◌-ℤ◌, ◌≤ℤ◌, int_le, Bool, true, false, List, [], ◌∷◌, ◌++◌, length, ℕ, nat_lt, int_lt, Some}
+use Rattle.std.specs.Prelude.{◌≡◌, ◌<◌, ℤ, pos, ◌-ℤ◌, ◌≤ℤ◌, int_le, Bool, true, false, List, [], ◌∷◌, ◌++◌, length}
 use Rattle.seq_values.specs.declared.words.Kind.{Kind}
 use Rattle.seq_values.specs.declared.words.Kind.TheVariants.{Future}
 use Rattle.seq_values.specs.declared.words.Op.TheVariants as O
-use Rattle.seq_values.specs.Model.{Value, nil, int, cell, cons, chunk, range, vec_seq, Values, ◌&◌, list, Term}
+use Rattle.seq_values.specs.Model.{Value, nil, int, cell, Term}
 use Rattle.seq_plan.specs.Plan.{give}
-use Rattle.seq_plan.specs.Nodes.{first_of, rest_of, chunk_of, holds, now, asks_for, found}
+use Rattle.seq_plan.specs.Nodes.{first_of, rest_of, holds, now, asks_for, found}
 use Rattle.seq_plan.specs.Lists.{list_of}
+use Rattle.seq_plan.specs.Sound.{Sound, SoundList}
 use Rattle.seq_plan.specs.Stages.{gathers, is_transducer, stages_of, fresh, standing, enter, complete}
 use Rattle.xf_stages.specs.Table.{replaced}
 use Rattle.seq_meaning.specs.Counts.{IsIn}
 use Rattle.seq_meaning.specs.Evaluates.{term_plan}
-use Rattle.seq_table.specs.Table.{chunk_size}
-use Rattle.seq_table.specs.World.{SeqTo, World, Seen, cut, done, ◌▸◌, script_in, Comes, CallTo, Begins}
+use Rattle.seq_table.specs.World.{World, Seen, cut, done, ◌▸◌, script_in, Comes, CallTo, Begins}
 
 -- elements before others
 abbrev pub ◌▸▸◌ : {C : Type 0} → List (Value C) → Seen C → Seen C
@@ -63,12 +63,21 @@ pub data Repeated {C : Type 0} (x : Value C) : Seen C → Type 0 where
   repeated_cut : Repeated x cut
   repeated_more : {l : Seen C} → Repeated x l → Repeated x (x ▸ l)
 
--- a node that has an element
-pub data IsSound {C : Type 0} : Value C → Type 0 where
-  sound_cons : {x : Value C} {xs : Values C} {r : Value C} → IsSound (cons (x & xs) r)
-  sound_chunk : {x : Value C} {xs : Values C} {r : Value C} → IsSound (chunk (x & xs) r)
-  sound_range : {from at end : ℤ} → int_lt at end ≡ true → IsSound (range from at end)
-  sound_vec_seq : {xs : Values C} {at : ℕ} → nat_lt at (length (list xs)) ≡ true → IsSound (vec_seq xs at)
+-- the terms of which it is shown that what they give begins as their list
+pub data HasList {C : Type 0} : Term C → Type 0 where
+  has_map : {f c : Value C} → HasList (record { op = O.Map; args = f ∷ c ∷ [] })
+  has_filter : {p c : Value C} → HasList (record { op = O.Filter; args = p ∷ c ∷ [] })
+  has_keep : {f c : Value C} → HasList (record { op = O.Keep; args = f ∷ c ∷ [] })
+  has_near : {c a : Value C} → HasList (record { op = O.Near; args = c ∷ a ∷ [] })
+  has_concat : {cs : List (Value C)} → HasList (record { op = O.Concat; args = cs })
+  has_mapcat : {f c : Value C} → HasList (record { op = O.Mapcat; args = f ∷ c ∷ [] })
+  has_take : {n : ℤ} {c : Value C} → HasList (record { op = O.Take; args = int n ∷ c ∷ [] })
+  has_take_while : {p c : Value C} → HasList (record { op = O.TakeWhile; args = p ∷ c ∷ [] })
+  has_drop : {n : ℤ} {c : Value C} → HasList (record { op = O.Drop; args = int n ∷ c ∷ [] })
+  has_drop_while : {p c : Value C} → HasList (record { op = O.DropWhile; args = p ∷ c ∷ [] })
+  has_next : {f x : Value C} → HasList (record { op = O.Next; args = f ∷ x ∷ [] })
+  has_repeat : {x : Value C} → HasList (record { op = O.Repeat; args = x ∷ [] })
+  has_cycle : {whole c : Value C} → HasList (record { op = O.Cycle; args = whole ∷ c ∷ [] })
 
 module _ {C : Type 0} (w : World C) where
   -- the elements of each of the collections
@@ -195,52 +204,25 @@ module _ {C : Type 0} (w : World C) where
       nothing_read : InList t cut
       so_far : {l l' : Seen C} → Meant t l' → CutOf l l' → InList t l
 
-  -- what the seqs of a collection come to, of the collection itself, of a rest, and of what is behind a chunk
-  pub data Reaches : Value C → Value C → Type 0 where
-    reach_seq : {c s : Value C} → SeqTo w c s → ¬ (s ≡ nil) → Reaches c s
-    reach_rest : {c s t : Value C} → SeqTo w c s → ¬ (s ≡ nil) → Reaches (rest_of s) t → Reaches c t
-    reach_behind : {c s r t : Value C} {xs : List (Value C)} → SeqTo w c s → chunk_of chunk_size s ≡ Some (xs, r) → Reaches r t → Reaches c t
-
-  -- each node that reading the collection comes to has an element
-  abbrev pub AllSound : Value C → Type 0
-  AllSound c = (s : Value C) → Reaches c s → IsSound s
-
-  pub data AllSoundEach : List (Value C) → Type 0 where
-    all_sound_none : AllSoundEach []
-    all_sound_more : {c : Value C} {cs : List (Value C)} → AllSound c → AllSoundEach cs → AllSoundEach (c ∷ cs)
-
-  -- so does each answer of f
-  abbrev pub SoundAnswers : Value C → Type 0
-  SoundAnswers f = (defs : List (Value C)) (x y : Value C) → CallTo w defs f (x ∷ []) y → AllSound y
-
-  -- the terms of which it is shown that what they give begins as their list
-  pub data HasList : Term C → Type 0 where
-    has_map : {f c : Value C} → AllSound c → HasList (record { op = O.Map; args = f ∷ c ∷ [] })
-    has_filter : {p c : Value C} → AllSound c → HasList (record { op = O.Filter; args = p ∷ c ∷ [] })
-    has_keep : {f c : Value C} → AllSound c → HasList (record { op = O.Keep; args = f ∷ c ∷ [] })
-    has_near : {c a : Value C} → HasList (record { op = O.Near; args = c ∷ a ∷ [] })
-    has_concat : {cs : List (Value C)} → AllSoundEach cs → HasList (record { op = O.Concat; args = cs })
-    has_mapcat : {f c : Value C} → SoundAnswers f → HasList (record { op = O.Mapcat; args = f ∷ c ∷ [] })
-    has_take : {n : ℤ} {c : Value C} → HasList (record { op = O.Take; args = int n ∷ c ∷ [] })
-    has_take_while : {p c : Value C} → HasList (record { op = O.TakeWhile; args = p ∷ c ∷ [] })
-    has_drop : {n : ℤ} {c : Value C} → HasList (record { op = O.Drop; args = int n ∷ c ∷ [] })
-    has_drop_while : {p c : Value C} → HasList (record { op = O.DropWhile; args = p ∷ c ∷ [] })
-    has_next : {f x : Value C} → HasList (record { op = O.Next; args = f ∷ x ∷ [] })
-    has_repeat : {x : Value C} → HasList (record { op = O.Repeat; args = x ∷ [] })
-    has_cycle : {whole c : Value C} → HasList (record { op = O.Cycle; args = whole ∷ c ∷ [] })
-
   -- After the elements ys, the list of the term goes on with what v begins with.
   pub data At (defs : List (Value C)) (t : Term C) : List (Value C) → Value C → Type 0 where
     stops : {ys : List (Value C)} {v : Value C} → found v ≡ now nil → Meant defs t (ys ▸▸ done) → At defs t ys v
     shows : {ys : List (Value C)} {v s : Value C} → found v ≡ now s → ¬ (s ≡ nil) → At defs t (ys ++ first_of s ∷ []) (rest_of s) → At defs t ys v
     leads : {ys es : List (Value C)} {v : Value C} {c : C} {kind : Kind} {u : Term C} → found v ≡ asks_for c → w.IsPart c kind es u → HasList u → ((l : Seen C) → Meant es u l → Meant defs t (ys ▸▸ l)) → At defs t ys v
-    joins : {ys es fs : List (Value C)} {v d : Value C} {k m : C} {kind kind' : Kind} {u : Term C} → found v ≡ asks_for k → w.IsPart k kind es (record { op = O.Concat; args = d ∷ cell m ∷ [] }) → AllSound d → w.IsPart m kind' fs u → HasList u → ((l l' : Seen C) → Begins w d l → Meant fs u l' → Meant defs t (ys ▸▸ followed l l')) → At defs t ys v
+    joins : {ys es fs : List (Value C)} {v d : Value C} {k m : C} {kind kind' : Kind} {u : Term C} → found v ≡ asks_for k → w.IsPart k kind es (record { op = O.Concat; args = d ∷ cell m ∷ [] }) → w.IsPart m kind' fs u → HasList u → ((l l' : Seen C) → Begins w d l → Meant fs u l' → Meant defs t (ys ▸▸ followed l l')) → At defs t ys v
     is_rest : {ys : List (Value C)} {v : Value C} → ((l : Seen C) → Begins w v l → Meant defs t (ys ▸▸ l)) → At defs t ys v
+
+  -- what cells show is sound, and so are the terms of parts
+  abbrev pub ShowsSound : Type 0
+  ShowsSound = (c : C) (v : Value C) → w.Shows c v → Sound v
+
+  abbrev pub PartsSound : Type 0
+  PartsSound = (c : C) (kind : Kind) (defs : List (Value C)) (t : Term C) → w.IsPart c kind defs t → SoundList t.args
 
   -- a cell gives what its term comes to
   abbrev pub Opens : Type 0
   Opens = (c : C) (kind : Kind) (defs : List (Value C)) (t : Term C) (v : Value C) → w.IsPart c kind defs t → w.Shows c v → Comes w defs (term_plan (script_in w defs) t) v
 
-  -- what a row shows: the value that its term comes to is at the beginning of the term's list
+  -- what a row shows: the value that its term comes to, of sound arguments, is at the beginning of the term's list
   abbrev pub RowOf : Term C → Type 0
-  RowOf t = (defs : List (Value C)) (v : Value C) → Comes w defs (term_plan (script_in w defs) t) v → At defs t [] v
+  RowOf t = SoundList t.args → (defs : List (Value C)) (v : Value C) → Comes w defs (term_plan (script_in w defs) t) v → At defs t [] v

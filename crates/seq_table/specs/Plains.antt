@@ -13,7 +13,7 @@ mutual
     plain_reduced : Plain → Plain
     -- a function: its target and what is bound to it
     plain_function : Target → Plains → Plain
-    -- a vector, a node or a lazy part: its elements
+    -- a vector or a node: its elements
     plain_list : Plains → Plain
     too_deep : Plain
 
@@ -23,7 +23,7 @@ mutual
     ◌then◌ : Plain → Plains → Plains
 
 infixr 60 ◌then◌
--- vectors, nodes and cells stand for lists
+-- vectors and nodes stand for lists
 pub data StandsForList {C : Type 0} : Value C → Type 0 where
   a_vector : {xs : Values C} → StandsForList (vector xs)
   an_empty : StandsForList empty
@@ -31,7 +31,6 @@ pub data StandsForList {C : Type 0} : Value C → Type 0 where
   a_chunk : {xs : Values C} {r : Value C} → StandsForList (chunk xs r)
   a_range : {from at end : ℤ} → StandsForList (range from at end)
   a_vec_seq : {xs : Values C} {at : ℕ} → StandsForList (vec_seq xs at)
-  a_cell : {c : C} → StandsForList (cell c)
 
 module _ {C : Type 0} (w : World C) where
   mutual
@@ -46,6 +45,8 @@ module _ {C : Type 0} (w : World C) where
       of_function : {d : ℕ} {t : Target} {xs : Values C} {ps : Plains} → PlainAll m d xs ps → PlainOf m d (function t xs) (plain_function t ps)
       of_list : {d : ℕ} {v : Value C} {l : Seen C} {ps : Plains} → StandsForList v → Elements w v m l → PlainSeen m d l ps → PlainOf m (suc d) v (plain_list ps)
       of_deep : {v : Value C} → StandsForList v → PlainOf m zero v too_deep
+      -- a cell is read as what it gives, and is no level of its own
+      of_cell : {d : ℕ} {c : C} {v : Value C} {p : Plain} → w.Shows c v → PlainOf m d v p → PlainOf m d (cell c) p
 
     pub data PlainAll (m : ℕ) : ℕ → Values C → Plains → Type 0 where
       all_none : {d : ℕ} → PlainAll m d no_values end_of_list

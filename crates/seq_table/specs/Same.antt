@@ -4,7 +4,7 @@ use Rattle.seq_values.specs.declared.words.Kind.{Kind}
 use Rattle.seq_values.specs.Model.{Value, Term}
 use Rattle.clj_script.specs.Trees.{Program}
 use Rattle.seq_plan.specs.Plan.{Rules}
-use Rattle.seq_plan.specs.Alike.{LikeList, LikeTerm}
+use Rattle.seq_plan.specs.Alike.{Likeness, by, LikeList, LikeTerm}
 use Rattle.seq_meaning.specs.Names.{Name, part, retry}
 use Rattle.seq_meaning.specs.Gives.{work, of_term, Part}
 
@@ -23,7 +23,7 @@ mutual
 module _ (rules : Rules Name) (program : Program) (limit : ℕ) where
   -- parts of like terms
   pub data LikeParts (R : Name → Name → Type 0) (a b : Name) : Type 0 where
-    like_parts : {kind : Kind} {ds es : List (Value Name)} {t u : Term Name} → Part rules program limit a kind (work ds (of_term t)) → Part rules program limit b kind (work es (of_term u)) → LikeList R ds es → LikeTerm R t u → LikeParts R a b
+    like_parts : {kind : Kind} {ds es : List (Value Name)} {t u : Term Name} → Part rules program limit a kind (work ds (of_term t)) → Part rules program limit b kind (work es (of_term u)) → LikeList (by R) ds es → LikeTerm (by R) t u → LikeParts R a b
 
   -- in at most k rounds
   abbrev pub Base : ℕ → Name → Name → Type 0
@@ -33,5 +33,6 @@ module _ (rules : Rules Name) (program : Program) (limit : ℕ) where
   abbrev pub SameIn : ℕ → Name → Name → Type 0
   SameIn k = CellOver (Base k)
 
-  abbrev pub Same : Name → Name → Type 0
-  Same a b = (k : ℕ) × SameIn k a b
+  -- in any number of rounds
+  abbrev pub Same : Likeness Name Name
+  Same = by (λ a b. (k : ℕ) × SameIn k a b)

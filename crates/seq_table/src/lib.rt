@@ -1,8 +1,8 @@
 //! The table of the language, and worked scripts over it. Each function states a law over the definitions.
 #![tactic(auto)]
 
-ghost use Rattle.seq_table.specs.Laws.{TableRenames};
-ghost use Rattle.seq_table.specs.Coming.{FoldIsTree, GivesWhatComes, LikeIsAlike, ListsOfTerms, OneCall, OneList, OneRun};
+ghost use Rattle.seq_table.specs.Laws.{TableIsSound, TableKeeps, TableRenames};
+ghost use Rattle.seq_table.specs.Coming.{CallsAreSound, CallsAreWell, FoldIsTree, GivesWhatComes, LikeIsAlike, ListsOfTerms, OneCall, OneList, OneRun, RunsAreSound, RunsAreWell};
 ghost use Rattle.seq_table.specs.Worked.{FirstOfMap, FirstOfIterate, FailingChunk, NoneKept, SequeOfThree, FoldAsTree, CompletedGroups, TakeOfNone, PlainCall, RestAndNext, NeverAsked, NestedMapcat, GroupedSequence, LazyAndVector, NestedValue, PulledAhead, Dropped, JoinedOnce, InPlace, MadeScript};
 ghost use Rattle.seq_table.specs.Generated.{OneGenerated};
 ghost use Rattle.seq_table.specs.Written.{FirstOfMapWritten, NoneKeptWritten, FailingChunkWritten, MadeScriptWritten, MadeScriptAnswered};
@@ -10,6 +10,36 @@ ghost use Rattle.seq_table.specs.Written.{FirstOfMapWritten, NoneKeptWritten, Fa
 /// The rules look at cells only to ask them.
 pub fn law_table_renames()
     ensures { TableRenames }
+{}
+
+/// The rules make no node without an element.
+pub fn law_table_is_sound()
+    ensures { TableIsSound }
+{}
+
+/// Each row keeps to well-formed values.
+pub fn law_table_keeps()
+    ensures { TableKeeps }
+{}
+
+/// All that a run of a program gives and makes is well formed.
+pub fn law_runs_are_well()
+    ensures { RunsAreWell }
+{}
+
+/// What a call of well-formed values comes to is well formed.
+pub fn law_calls_are_well()
+    ensures { CallsAreWell }
+{}
+
+/// All that a run of a program gives and makes is sound.
+pub fn law_runs_are_sound()
+    ensures { RunsAreSound }
+{}
+
+/// What a call of sound values comes to is sound.
+pub fn law_calls_are_sound()
+    ensures { CallsAreSound }
 {}
 
 /// An evaluation that gives a value gives what the plan of its work comes to.

@@ -1,15 +1,17 @@
 -- The rows look at cells only to ask them.
-use Rattle.std.proofs.Common.{◌≡◌, ℕ, ℤ, pos, int_le, Bool, true, false, cond, List, length}
+use Rattle.std.proofs.Common.{◌≡◌, ℕ, ℤ, pos, int_le, Bool, true, false, cond, List, length, refl}
 use Rattle.seq_values.specs.declared.words.Builtin.{Builtin}
 use Rattle.seq_values.specs.declared.words.Builtin.TheVariants as B
-use Rattle.seq_values.specs.Model.{Value}
+use Rattle.seq_values.specs.Model.{Value, empty, chunk, values}
 use Rattle.seq_plan.specs.Plan.{Plan, Loop, enter_from, pull_from}
-use Rattle.seq_plan.specs.Alike.{Like, like_nil, like_bool, like_int, like_vector, like_function, like_cell, like_empty, like_chunk, like_none, like_more, LikeList, like_end, like_item, like_term, LikePlan, like_seq, like_call, like_go, like_make, like_give, like_throw, LikeRound, like_ends_with, like_fails, like_visits}
-use Rattle.seq_plan.proofs.AlikeNodes.{like-list, like-values, like-length, like-cond, like-round_at, like-first_of, like-rest_of, like-give_value, like-with_members}
+use Rattle.seq_plan.specs.Alike.{Likeness, Like, like_nil, like_bool, like_int, like_vector, like_function, like_cell, like_empty, like_chunk, like_none, like_more, LikeList, like_end, like_item, like_term, LikePlan, like_seq, like_call, like_go, like_make, like_give, like_throw, LikeRound, like_ends_with, like_fails, like_visits}
+use Rattle.seq_plan.proofs.AlikeNodes.{like-list, like-values, like-length, like-cond, like-round_at, like-first_of, like-rest_of, like-give_value, like-with_members, like-with_these}
+use Rattle.seq_plan.proofs.AlikeLists.{like-with_items}
+use Rattle.seq_plan.specs.Nodes.{give_value}
 use Rattle.seq_plan.proofs.AlikeStages.{like_reduces, like_gathers, like-with_stages, like-fresh, like-answer_of, like-outputs_of, like-enter, like-enter_each, like-enter_round, like-complete}
 use Rattle.xf_stages.specs.Table.{transduce_rule, kept, replaced, make_pull, pulled, pull_round, last_outputs, after_pull, pull_term, stage_call, stage_round}
 
-module _ {C D : Type 0} {R : C → D → Type 0} where
+module _ {C D : Type 0} {R : Likeness C D} where
   like-transduce : {xs : List (Value C)} {ys : List (Value D)} → LikeList R xs ys → {f : Value C} {g : Value D} → Like R f g → {i : Value C} {j : Value D} → Like R i j → {c : Value C} {d : Value D} → Like R c d → LikePlan R (transduce_rule xs f i c) (transduce_rule ys g j d)
   like-transduce p f i c = like-enter_each p (like-fresh p) (like_reduces f i) c (λ us vs q s t r done.
       like-complete p q r (λ s t r. like_call f (like_item (like-answer_of r) like_end) (λ v w e. like_give e)))
@@ -25,7 +27,7 @@ module _ {C D : Type 0} {R : C → D → Type 0} where
   like-replaced (like_item p q) like_end = like_item p (like-replaced q like_end)
   like-replaced (like_item p q) (like_item s r) = like_item s (like-replaced q r)
 
-  like-make_pull : {f : Value C} {g : Value D} → Like R f g → {us : List (Value C)} {vs : List (Value D)} → LikeList R us vs → {c : Value C} {d : Value D} → Like R c d → {k : C → Plan C} {h : D → Plan D} → ((m : C) (n : D) → R m n → LikePlan R (k m) (h n)) → LikePlan R (make_pull f us c k) (make_pull g vs d h)
+  like-make_pull : {f : Value C} {g : Value D} → Like R f g → {us : List (Value C)} {vs : List (Value D)} → LikeList R us vs → {c : Value C} {d : Value D} → Like R c d → {k : C → Plan C} {h : D → Plan D} → ((m : C) (n : D) → R.same m n → LikePlan R (k m) (h n)) → LikePlan R (make_pull f us c k) (make_pull g vs d h)
   like-make_pull f q c e = like-with_members (like_item f (like_item c (like-kept q))) (λ xs ys p. like_make (like_term p) e)
 
   like-pulled : (ended : Bool) {us : List (Value C)} {vs : List (Value D)} → LikeList R us vs → {xs : List (Value C)} {ys : List (Value D)} → LikeList R xs ys → {c : Value C} {d : Value D} → Like R c d → Like R (pulled ended us xs c) (pulled ended vs ys d)
@@ -49,13 +51,13 @@ module _ {C D : Type 0} {R : C → D → Type 0} where
 
   like-last_outputs : {xs : List (Value C)} {ys : List (Value D)} → LikeList R xs ys → LikePlan R (last_outputs xs) (last_outputs ys)
   like-last_outputs like_end = like_give like_nil
-  like-last_outputs (like_item p q) = like-with_members (like_item p q) (λ xs ys h. like-give_value (like_chunk (like-values h) like_empty))
+  like-last_outputs (like_item p q) = like-with_these (like_item p q) (λ outputs. give_value (chunk (values outputs) empty)) (λ outputs. give_value (chunk (values outputs) empty)) (like-give_value (like_chunk (λ s. refl) (like-values (like_item p q)) like_empty))
 
   like-after_pull : {f : Value C} {g : Value D} → Like R f g → {xs : List (Value C)} {ys : List (Value D)} → LikeList R xs ys → {v : Value C} {w : Value D} → Like R v w → LikePlan R (after_pull f xs v) (after_pull g ys w)
   like-after_pull f p (like_vector (like_more (like_bool {b = true}) (like_more (like_vector q) (like_more (like_vector r) (like_more c like_none))))) =
       like-complete p (like-list q) (like_gathers (like-list r)) (λ s t h. like-last_outputs (like-outputs_of h))
   like-after_pull f p (like_vector (like_more (like_bool {b = false}) (like_more (like_vector q) (like_more (like_vector r) (like_more c like_none))))) =
-      like-make_pull f (like-list q) c (λ m n e. like-with_members (like-list r) (λ xs ys h. like-give_value (like_chunk (like-values h) (like_cell e))))
+      like-make_pull f (like-list q) c (λ m n e. like-with_members (like-list r) (λ xs ys h. like-give_value (like-with_items (like-values h) (λ s. refl) (like_cell e))))
   like-after_pull f p _ = like_throw
 
   pub like-pull_term : (size : ℕ) {xs : List (Value C)} {ys : List (Value D)} → LikeList R xs ys → LikePlan R (pull_term size xs) (pull_term size ys)

@@ -1,3 +1,4 @@
 pub mod AlikeTable
 pub mod KeptStates
 pub mod Limited
+pub mod WellTable

@@ -9,7 +9,7 @@ use Rattle.seq_values.specs.declared.words.Op.TheVariants as O
 use Rattle.seq_values.specs.declared.words.Target.TheVariants as T
 use Rattle.seq_values.specs.Model.{Value, nil, bool, int, vector, function, cell, empty, chunk, no_values, ◌&◌, list, values}
 use Rattle.seq_plan.specs.Plan.{Plan, seq, call, go, give, throw, Loop, enter_from, pull_from, Round, ends_with, fails, visits}
-use Rattle.seq_plan.specs.Nodes.{first_of, rest_of, round_at, give_value, with_members, make_term}
+use Rattle.seq_plan.specs.Nodes.{first_of, rest_of, with_items, round_at, give_value, with_members, make_term}
 use Rattle.seq_plan.specs.Stages.{reduces, gathers, with_stages, fresh, answer_of, outputs_of, enter, enter_each, enter_round, complete}
 
 module _ {C : Type 0} where
@@ -62,12 +62,12 @@ module _ {C : Type 0} where
   last_outputs [] = give nil
   last_outputs (x ∷ xs) = with_members (x ∷ xs) (λ outputs. give_value (chunk (values outputs) empty))
 
-  -- at an end the completion's outputs are added; else a part for what is left stands behind the outputs
+  -- at an end the completion's outputs are added; else a part for what is left stands behind the outputs, or alone where there are none
   abbrev pub after_pull : Value C → List (Value C) → Value C → Plan C
   after_pull xf stages (vector (bool true & vector states & vector outputs & c & no_values)) =
       complete stages (list states) (gathers (list outputs)) (λ sink. last_outputs (outputs_of sink))
   after_pull xf stages (vector (bool false & vector states & vector outputs & c & no_values)) =
-      make_pull xf (list states) c (λ m. with_members (list outputs) (λ xs. give_value (chunk (values xs) (cell m))))
+      make_pull xf (list states) c (λ m. with_members (list outputs) (λ xs. give_value (with_items (values xs) (cell m))))
   after_pull xf stages _ = throw BadType
 
   -- Pull, by how many outputs end it. Source: clojure.core's `sequence` over a transducer; that so many outputs are pulled at once is a rule of this language.
