@@ -32,7 +32,7 @@ numbered_item f xs (suc n) o h e =
     let g : o ≡ slice_get xs n = rw m at e in
     ap (option_map f) g ∙ sym (mapped_item f xs n)
 
-stays : (ts more : List tree.Expr) (e : Expr) → AllBelow (length ts) (parts_of e) → tree_over (ts ++ more) e ≡ tree_over ts e
+pub stays : (ts more : List tree.Expr) (e : Expr) → AllBelow (length ts) (parts_of e) → tree_over (ts ++ more) e ≡ tree_over ts e
 unfolding tree_over
 stays ts more (node.Literal value) b = refl
 stays ts more (node.Word w) b = refl
@@ -73,7 +73,7 @@ none_past [] (y ∷ ys) n h e = absurd (omega arith)
 none_past (x ∷ xs) (y ∷ ys) zero h e = absurd (some_is_none e)
 none_past (x ∷ xs) (y ∷ ys) (suc n) h e = none_past xs ys n (omega arith) e
 
-nodes-length : (es : List Expr) → length (trees_of es) ≡ length es
+pub nodes-length : (es : List Expr) → length (trees_of es) ≡ length es
 unfolding trees_of
 nodes-length es =
     let k : length (trees_behind tree_over [] es) ≡ 0 + length es = trees-length tree_over parts_of [] es in

@@ -14,3 +14,6 @@ pub mod Arena
 pub mod Entries
 pub mod Nodes
 pub mod Seen
+pub mod Reads
+pub mod Machines
+pub mod Tops

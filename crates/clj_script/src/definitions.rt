@@ -3,6 +3,7 @@ ghost use Rattle.std.specs.Prelude.{◌≡◌, [], ◌∷◌, ◌++◌, length, 
 ghost use Rattle.clj_script.specs.Words.{spelled};
 ghost use Rattle.clj_script.specs.Scopes as scope;
 ghost use Rattle.clj_script.specs.Names.{defined, Stands};
+ghost use Rattle.clj_script.specs.Nodes.{parts_of};
 
 use crate::expr::Expr;
 use crate::locals::{Locals, number_of};
@@ -26,7 +27,8 @@ pub(crate) type Definitions = IndexMap<Vec<u8>, Meaning>;
 /// isn't known. The innermost local comes first, then a definition, then a built-in word.
 #[tactic(auto, unfolding(crate::specs::Scopes::named, crate::specs::Nodes::tree_over))]
 pub(crate) fn named(name: &[u8], locals: &Locals, definitions: &Definitions) -> Result<Expr, u8>
-    ensures { Stands result (scope.named (defined definitions.now.entries) locals.now name.now) }
+    ensures stands { Stands result (scope.named (defined definitions.now.entries) locals.now name.now) }
+    ensures alone { IfOk result (λ expr. parts_of expr ≡ []) }
 {
     if reserved_word(name).is_some() {
         return Err(10);

@@ -119,7 +119,7 @@ fn text(alloc: Global, bytes: &[u8]) -> Result<Text, AllocError>
 }
 
 /// The form with a number.
-fn entry_at(sources: &[Entry], number: usize) -> &Entry
+pub(crate) fn entry_at(sources: &[Entry], number: usize) -> &Entry
     requires lower { IsLower sources.now }
     requires below { number < length sources.now }
     ensures reads { form_at sources.now number ≡ form_over (forms_of sources.now) result.now }
