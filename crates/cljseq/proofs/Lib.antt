@@ -1,5 +1,7 @@
-pub mod AnswerLemmas
 pub mod CellLemmas
 pub mod ItemLemmas
-pub mod NumberLemmas
+pub mod NodeLemmas
 pub mod ShapeLemmas
+pub mod ScriptLemmas
+pub mod AnswerLemmas
+pub mod OneAnswer

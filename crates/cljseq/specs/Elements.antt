@@ -3,6 +3,11 @@ use Rattle.std.specs.Prelude.{ℕ, zero, suc, ℤ, pos, ◌+ℤ◌, negsuc, List
 use Rattle.cljseq.specs.declared.chain.Step.{Step}
 use Rattle.cljseq.specs.declared.chain.Step.TheVariants.{Inc, Dec, Take}
 
+-- the lists of a form: the steps, the outermost first, over the range below a number
+pub record Lists : Type 0 where
+  pub steps : List Step
+  pub range : ℕ
+
 -- so many whole numbers from the first on
 abbrev pub numbers : ℤ → ℕ → List ℤ
 numbers first zero = []

@@ -1,26 +1,28 @@
-ghost use Rattle.std.specs.Prelude.{◌≡◌, ◌↔◌, ◌<◌, ◌≤◌, ◌⊎◌, ◌++◌, codes, length, IfSome};
-ghost use Rattle.std.specs.Fmt.{signed_decimal};
+ghost use Rattle.std.specs.Prelude.{◌≡◌, ◌↔◌, ◌<◌, ◌≤◌, ◌⊎◌, length, IfSome, OnOk};
 ghost use Rattle.std.specs.Io.KnownBytes.{Appends, IsAtEnd, Keeps};
 ghost use Rattle.seq_base.specs.Causes.{Rose};
-ghost use Rattle.cljseq.specs.Answers.{AppendsPart, Printed, PrintedPart, refusal_line, sum_line};
+ghost use Rattle.cljseq.specs.Answers.{AppendsPart, Printed, PrintedPart, refusal_line};
 
-use crate::evaluate::total;
-use crate::shape::{Chain, parse};
+use crate::print::{print_refusal, print_sums};
+use crate::script::{Refusal, ScriptStop, read_script};
 use crate::status::Status;
-use seq_base::{ReadStop, Sink, Source, WriteStop, read_whole, write_whole};
-use seq_vector::NoMemory;
-use std::alloc::{AllocError, Global};
+use clj_reader::Place;
+use seq_base::{ReadStop, Sink, Source, WriteStop, read_whole};
+use std::alloc::Global;
 
 /// The most bytes that a script may have.
 const MAX_BYTES: usize = 1_048_576;
 
-/// The line of a text that isn't of the shape.
-const REFUSAL: &[u8] = b"refused 10 1:1\n";
+/// The refusal of a text with more bytes.
+const TOO_LONG: Refusal = Refusal {
+    number: 6,
+    place: Place { line: 1, column: 1 },
+};
 
 /// All that the program does. The first word is its name and isn't looked at.
 ///
 /// `NoMemory` may come at any point, and no clause ties it to a cause.
-#[tactic(auto, using(crate::proofs::AnswerLemmas::whole_text, crate::proofs::AnswerLemmas::whole_part, crate::proofs::AnswerLemmas::too_long_text, crate::proofs::AnswerLemmas::too_long_part, crate::proofs::AnswerLemmas::kept_part))]
+
 pub fn command<I: Source, O: Sink>(
     alloc: Global,
     words: &[String],
@@ -49,67 +51,44 @@ pub fn command<I: Source, O: Sink>(
     match read_whole(alloc, input, MAX_BYTES) {
         Err(ReadStop::Failed) => Status::ReadFault,
         Err(ReadStop::Memory) => Status::NoMemory,
-        Err(ReadStop::TooLong) => refuse(out),
+        Err(ReadStop::TooLong) => refuse(alloc, TOO_LONG, out),
         Ok(text) => run(alloc, &text, out),
     }
 }
 
-/// Writes the line of a text that isn't of the shape.
-fn refuse<O: Sink>(out: &mut O) -> Status
-    ensures refused { result ≡ Status.ScriptRefused → Appends (O.written out.old) (O.written out.new) refusal_line }
-    ensures part { (result ≡ Status.WriteFault) ⊎ (result ≡ Status.NoMemory) → AppendsPart (O.written out.old) (O.written out.new) refusal_line }
+/// Writes the line of a refusal.
+fn refuse<O: Sink>(alloc: Global, refusal: Refusal, out: &mut O) -> Status
+    ensures refused { result ≡ Status.ScriptRefused → Appends (O.written out.old) (O.written out.new) (refusal_line refusal.number refusal.place) }
+    ensures part { AppendsPart (O.written out.old) (O.written out.new) (refusal_line refusal.number refusal.place) }
     ensures write { result ≡ Status.WriteFault → Rose (O.faults out.old) (O.faults out.new) }
-    ensures others { (result ≡ Status.Done → ⊥) × (result ≡ Status.Usage → ⊥) × (result ≡ Status.ReadFault → ⊥) × (result ≡ Status.DefThrew → ⊥) × (result ≡ Status.CellsSpent → ⊥) }
+    ensures either { (result ≡ Status.ScriptRefused) ⊎ (result ≡ Status.WriteFault) ⊎ (result ≡ Status.NoMemory) }
 {
-    match write_whole(out, REFUSAL) {
-        Ok(()) => Status::ScriptRefused,
-        Err(WriteStop::Failed) => Status::WriteFault,
-        Err(WriteStop::Memory) => Status::NoMemory,
-    }
+    ended(Status::ScriptRefused, print_refusal(alloc, refusal, out))
 }
 
 /// Runs a script's text.
-#[tactic(auto, using(crate::proofs::AnswerLemmas::sum_printed, crate::proofs::AnswerLemmas::sum_part, crate::proofs::AnswerLemmas::refusal_printed, crate::proofs::AnswerLemmas::refusal_part, crate::proofs::AnswerLemmas::no_part))]
+#[tactic(auto, using(crate::proofs::AnswerLemmas::text_printed, crate::proofs::AnswerLemmas::refusal_printed, crate::proofs::AnswerLemmas::text_part, crate::proofs::AnswerLemmas::no_part))]
 fn run<O: Sink>(alloc: Global, text: &[u8], out: &mut O) -> Status
     ensures answered { (result ≡ Status.Done) ⊎ (result ≡ Status.ScriptRefused) → Printed text.now result (O.written out.old) (O.written out.new) }
-    ensures part { (result ≡ Status.WriteFault) ⊎ (result ≡ Status.NoMemory) → PrintedPart text.now (O.written out.old) (O.written out.new) }
+    ensures part { PrintedPart text.now (O.written out.old) (O.written out.new) }
     ensures write { result ≡ Status.WriteFault → Rose (O.faults out.old) (O.faults out.new) }
     ensures others { (result ≡ Status.Usage → ⊥) × (result ≡ Status.ReadFault → ⊥) × (result ≡ Status.DefThrew → ⊥) × (result ≡ Status.CellsSpent → ⊥) }
 {
-    match parse(alloc, text) {
-        Err(AllocError) => Status::NoMemory,
-        Ok(None) => refuse(out),
-        Ok(Some(chain)) => print_total(alloc, &chain, out),
+    match read_script(alloc, text) {
+        Ok(all) => ended(Status::Done, print_sums(alloc, all.as_slice(), out)),
+        Err(ScriptStop::Refused(refusal)) => refuse(alloc, refusal, out),
+        Err(ScriptStop::Memory) => Status::NoMemory,
     }
 }
 
-/// Writes the line of a list's sum.
-fn print_total<O: Sink>(alloc: Global, chain: &Chain, out: &mut O) -> Status
-    requires few { length chain.now.steps.items < 8 }
-    requires small { chain.now.range ≤ 1000 }
-    ensures done { result ≡ Status.Done → Appends (O.written out.old) (O.written out.new) (sum_line chain.now.steps.items chain.now.range) }
-    ensures part { (result ≡ Status.WriteFault) ⊎ (result ≡ Status.NoMemory) → AppendsPart (O.written out.old) (O.written out.new) (sum_line chain.now.steps.items chain.now.range) }
-    ensures write { result ≡ Status.WriteFault → Rose (O.faults out.old) (O.faults out.new) }
-    ensures others { (result ≡ Status.ScriptRefused → ⊥) × (result ≡ Status.Usage → ⊥) × (result ≡ Status.ReadFault → ⊥) × (result ≡ Status.DefThrew → ⊥) × (result ≡ Status.CellsSpent → ⊥) }
+/// The status of a run that ends with this one where its output was written.
+fn ended(status: Status, written: Result<(), WriteStop>) -> Status
+    ensures done { OnOk written (result ≡ status) }
+    ensures failed { written ≡ Err WriteStop.Failed → result ≡ Status.WriteFault }
+    ensures memory { written ≡ Err WriteStop.Memory → result ≡ Status.NoMemory }
 {
-    match total(alloc, &chain.steps, chain.range) {
-        Ok(sum) => print(alloc, sum, out),
-        Err(NoMemory) => Status::NoMemory,
-    }
-}
-
-/// Writes the line of a number.
-fn print<O: Sink>(alloc: Global, number: i64, out: &mut O) -> Status
-    ensures done { result ≡ Status.Done → Appends (O.written out.old) (O.written out.new) (signed_decimal number ++ codes "\n") }
-    ensures part { (result ≡ Status.WriteFault) ⊎ (result ≡ Status.NoMemory) → AppendsPart (O.written out.old) (O.written out.new) (signed_decimal number ++ codes "\n") }
-    ensures write { result ≡ Status.WriteFault → Rose (O.faults out.old) (O.faults out.new) }
-    ensures others { (result ≡ Status.ScriptRefused → ⊥) × (result ≡ Status.Usage → ⊥) × (result ≡ Status.ReadFault → ⊥) × (result ≡ Status.DefThrew → ⊥) × (result ≡ Status.CellsSpent → ⊥) }
-{
-    let Ok(line) = format!(in alloc; "{number}\n") else {
-        return Status::NoMemory;
-    };
-    match write_whole(out, line.as_bytes()) {
-        Ok(()) => Status::Done,
+    match written {
+        Ok(()) => status,
         Err(WriteStop::Failed) => Status::WriteFault,
         Err(WriteStop::Memory) => Status::NoMemory,
     }

@@ -28,93 +28,122 @@ fn answer(
     Ok((status, written))
 }
 
-const REFUSED: &str = "refused 10 1:1\n";
-
+/// Scripts of sums, and what they write.
 #[test]
-fn scripts(rt: HostRuntime) -> Result<(), Fail> {
-    let rows: [(&str, Status, &str); 14] = [
-        (
-            "(prn (reduce + (take 3 (map inc (range 100)))))",
-            Status::Done,
-            "6\n",
-        ),
-        ("(prn (reduce + (map dec (range 2))))", Status::Done, "-1\n"),
-        ("(prn (reduce + (take 0 (range 5))))\n", Status::Done, "0\n"),
-        ("(prn (reduce + (range 1000)))", Status::Done, "499500\n"),
+fn sums(rt: HostRuntime) -> Result<(), Fail> {
+    let rows: [(&str, &str); 11] = [
+        ("", ""),
+        (" ; nothing\n", ""),
+        ("(prn (reduce + (take 3 (map inc (range 100)))))", "6\n"),
+        ("(prn (reduce + (map dec (range 2))))", "-1\n"),
+        ("(prn (reduce + (take 0 (range 5))))\n\n", "0\n"),
+        ("(prn (reduce + (range 1000)))", "499500\n"),
         (
             "(prn (reduce + (map inc (map inc (map inc (map inc (map inc (map inc (map inc (range 1))))))))))",
-            Status::Done,
             "7\n",
         ),
-        ("(prn 1)", Status::ScriptRefused, REFUSED),
-        ("", Status::ScriptRefused, REFUSED),
+        ("(prn,(reduce\t+ ; all\n  (range +5)))", "10\n"),
         (
-            "(prn (reduce + (range 01)))",
-            Status::ScriptRefused,
-            REFUSED,
+            "(prn (reduce + (range 3)))(prn (reduce + (range 4)))\n(prn (reduce + (take 1 (range 9))))",
+            "3\n6\n0\n",
         ),
-        (
-            "(prn (reduce + (range +1)))",
-            Status::ScriptRefused,
-            REFUSED,
-        ),
-        (
-            "(prn (reduce + (range 1001)))",
-            Status::ScriptRefused,
-            REFUSED,
-        ),
-        (
-            "(prn (reduce +  (range 1)))",
-            Status::ScriptRefused,
-            REFUSED,
-        ),
-        ("(prn (reduce + (range )))", Status::ScriptRefused, REFUSED),
-        (
-            "(prn (reduce + (range 5)))\n\n",
-            Status::ScriptRefused,
-            REFUSED,
-        ),
-        (
-            "(prn (reduce + (map inc (map inc (map inc (map inc (map inc (map inc (map inc (map inc (range 1)))))))))))",
-            Status::ScriptRefused,
-            REFUSED,
-        ),
+        ("(prn (->> (range 3) (reduce +)))", "3\n"),
+        ("(-> (range 4) (->> (reduce +)) prn)", "6\n"),
     ];
-    for (text, status, line) in rows {
+    for (text, lines) in rows {
         for step in [1usize, 7, 9000] {
-            let (ended, written) = answer(
+            let (status, written) = answer(
                 rt.alloc(),
                 &[],
                 text.as_bytes(),
                 step.max(1),
                 (&[], &[]),
             )?;
-            assert_eq!(rt; ended, status, "{text}");
-            assert_eq!(rt; written.as_slice(), line.as_bytes(), "{text}");
+            assert_eq!(rt; written.as_slice(), lines.as_bytes(), "{text}");
+            assert_eq!(rt; status, Status::Done, "{text}");
         }
     }
     Ok(())
 }
 
+/// Texts that are refused, with the number and the place.
 #[test]
-fn refusals_and_faults(rt: HostRuntime) -> Result<(), Fail> {
-    let text = b"(prn (reduce + (range 5)))".as_slice();
-    let rows: [(&[&str], usize, &[u64], &[u64], Status, &str); 6] = [
+fn refusals(rt: HostRuntime) -> Result<(), Fail> {
+    let rows: [(&[u8], &str); 20] = [
+        // The reader.
+        (b"(prn \xff)", "refused 1 1:6\n"),
+        (b"(prn (inc 1)", "refused 2 1:1\n"),
+        (b"(prn (reduce + (range 01)))", "refused 3 1:23\n"),
+        (b"(prn 9223372036854775808)", "refused 4 1:6\n"),
+        // The compiler.
+        (b"(prn (reduce + (rang 3)))", "refused 7 1:17\n"),
+        (b"(def xs 1) (def xs 2)", "refused 8 1:17\n"),
+        (b"(def inc 1)", "refused 8 1:6\n"),
+        (b"(prn)", "refused 9 1:1\n"),
+        (b"(prn (if 1))", "refused 9 1:6\n"),
+        (b"(+ 1 2)", "refused 10 1:1\n"),
+        (b"(prn (prn 1))", "refused 11 1:6\n"),
+        // A form behind the first that isn't of the shape may be refused by the compiler, which comes first.
+        (b"(prn 1)\n(prn none)", "refused 7 2:6\n"),
+        // The first form that isn't of the shape.
+        (b"(prn 1)", "refused 10 1:1\n"),
+        (b"\n (prn (reduce + (range 1001)))", "refused 10 2:2\n"),
+        (b"(prn (reduce + (range -1)))", "refused 10 1:1\n"),
+        (
+            b"(prn (reduce + (take 1001 (range 1))))",
+            "refused 10 1:1\n",
+        ),
+        (
+            b"(prn (let [inc dec] (reduce + (map inc (range 2)))))",
+            "refused 10 1:1\n",
+        ),
+        (
+            b"(prn (reduce + (range 2)))\n(prn [1])\n(ledger)",
+            "refused 10 2:1\n",
+        ),
+        (
+            b"(def xs (range 3)) (prn (reduce + xs))",
+            "refused 10 1:1\n",
+        ),
+        (
+            b"(prn (reduce + (map inc (map inc (map inc (map inc (map inc (map inc (map inc (map inc (range 1)))))))))))",
+            "refused 10 1:1\n",
+        ),
+    ];
+    for (text, line) in rows {
+        let (status, written) = answer(rt.alloc(), &[], text, 9000, (&[], &[]))?;
+        assert_eq!(rt; written.as_slice(), line.as_bytes(), "{line}");
+        assert_eq!(rt; status, Status::ScriptRefused, "{line}");
+    }
+    let long = vec![in rt.alloc(); b' '; 1_048_577]?;
+    let (status, written) = answer(rt.alloc(), &[], &long, 8192, (&[], &[]))?;
+    assert_eq!(rt; written.as_slice(), b"refused 6 1:1\n".as_slice());
+    assert_eq!(rt; status, Status::ScriptRefused);
+    Ok(())
+}
+
+/// Words, and sources and sinks that fail in mid-stream.
+#[test]
+fn faults(rt: HostRuntime) -> Result<(), Fail> {
+    let text = b"(prn (reduce + (range 5))) (prn (reduce + (range 4)))".as_slice();
+    let rows: [(&[&str], usize, &[u64], &[u64], Status, &str); 8] = [
         (&["--workers"], 8, &[1], &[1], Status::Usage, ""),
         (&[""], 8, &[], &[], Status::Usage, ""),
         (&[], 8, &[1], &[], Status::ReadFault, ""),
         (&[], 8, &[2], &[], Status::ReadFault, ""),
         (&[], 1, &[], &[2], Status::WriteFault, "1"),
-        (&[], 8, &[9], &[2], Status::Done, "10\n"),
+        (&[], 8, &[], &[2], Status::WriteFault, "10\n"),
+        (&[], 1, &[], &[5], Status::WriteFault, "10\n6"),
+        (&[], 8, &[9], &[3], Status::Done, "10\n6\n"),
     ];
-    for (words, step, reads, writes, status, line) in rows {
+    for (words, step, reads, writes, status, lines) in rows {
         let (ended, written) = answer(rt.alloc(), words, text, step.max(1), (reads, writes))?;
         assert_eq!(rt; ended, status);
-        assert_eq!(rt; written.as_slice(), line.as_bytes());
+        assert_eq!(rt; written.as_slice(), lines.as_bytes());
     }
-    let long = vec![in rt.alloc(); b' '; 1_048_577]?;
-    let (ended, written) = answer(rt.alloc(), &[], &long, 8192, (&[], &[]))?;
-    assert_eq!(rt; ended, Status::ScriptRefused);
-    assert_eq!(rt; written.as_slice(), REFUSED.as_bytes());
+    let refused = b"(prn 9223372036854775808)".as_slice();
+    let (ended, written) = answer(rt.alloc(), &[], refused, 4, (&[], &[3]))?;
+    assert_eq!(rt; ended, Status::WriteFault);
+    assert_eq!(rt; written.as_slice(), b"refused ".as_slice());
     Ok(())
 }
