@@ -10,13 +10,13 @@ use Rattle.seq_values.specs.Model.{Value}
 use Rattle.seq_plan.specs.Plan.{Loop, nth_from, last_from, count_from, gather_from, doall_from, every_from, some_from, equal_from, reduce_from, enter_from, drop_from, drop_while_from, parts_from, pull_from, ahead_from, print_value, print_rest}
 use Rattle.seq_plan.specs.Alike.{Likeness, Like, like_function, like_none, like_more, LikeList, like_end, like_item, LikePlan, like_throw, LikeRound, like_fails, LikeRules}
 use Rattle.seq_plan.proofs.AlikeNodes.{like-cond}
-use Rattle.core_fns.proofs.AlikeCore.{like-core_call, like-core_function}
-use Rattle.lazy_rules.proofs.AlikeTable.{like-walk_call, like-lazy_term, like-walk_round}
-use Rattle.xf_stages.proofs.AlikeTable.{like-stage_call, like-pull_term, like-stage_round}
-use Rattle.ahead_rules.proofs.AlikeAhead.{like-ahead_call, like-ahead_term, like-ahead_round}
-use Rattle.lazy_rules.specs.Table.{walk_call}
-use Rattle.fold_rules.specs.Table.{is_reducer, fold_call}
-use Rattle.fold_rules.proofs.AlikeTable.{like-fold_call, like-fold_term}
+use Rattle.core_rows.proofs.AlikeCore.{like-core_call, like-core_function}
+use Rattle.lazy_rows.proofs.AlikeTable.{like-walk_call, like-lazy_term, like-walk_round}
+use Rattle.stage_rows.proofs.AlikeTable.{like-stage_call, like-pull_term, like-stage_round}
+use Rattle.ahead_rows.proofs.AlikeAhead.{like-ahead_call, like-ahead_term, like-ahead_round}
+use Rattle.lazy_rows.specs.Table.{walk_call}
+use Rattle.fold_rows.specs.Table.{is_reducer, fold_call}
+use Rattle.fold_rows.proofs.AlikeTable.{like-fold_call, like-fold_term}
 use Rattle.seq_meaning.proofs.AlikePrints.{like-value_round, like-rest_round, like-print_rule}
 use Rattle.seq_table.specs.Table.{over, reduce_row, into_row, on_word, on_call, on_term, on_loop, rules_of}
 

@@ -9,7 +9,7 @@ use Rattle.seq_plan.specs.Nodes.{range_stop, vector_stop, ints_from, value_at, f
 use Rattle.seq_plan.specs.Sound.{Sound, sound_nil, sound_bool, sound_int, sound_keyword, sound_text, sound_vector, sound_function, sound_reduced, sound_cell, sound_empty, sound_cons, sound_chunk, sound_range, sound_vec_seq, sound_none, sound_more}
 use Rattle.seq_plan.proofs.FitLemmas.{second_of_both}
 use Rattle.seq_plan.specs.Lists.{items_and}
-use Rattle.lazy_rules.specs.Terms.{map_on, map_rule, where_true, sift, one_or_cell, sift_on, filter_rule}
+use Rattle.lazy_rows.specs.Terms.{map_on, map_rule, where_true, sift, one_or_cell, sift_on, filter_rule}
 use Rattle.seq_table.specs.World.{World, Seen, ◌▸◌, SeqTo, Comes, comes_seq, comes_call, comes_make, CallTo, Begins, element}
 use Rattle.seq_table.specs.Lists.{◌▸▸◌, ShowsSound, Each, each_done, each_more, Sifted, sifted_done, sifted_in, sifted_out, Meant, of_map, of_filter, has_map, has_filter, At, shows, leads}
 use Rattle.seq_table.proofs.Seqs.{given, given_value, seq_sound, of_seq, front, SeqCases, at_none, at_some, seq_cases}

@@ -5,7 +5,7 @@ use Rattle.seq_values.specs.Model.{Value, nil, int}
 use Rattle.clj_script.specs.Trees.{Program}
 use Rattle.seq_plan.specs.Plan.{Plan, call, visit, seq, go, give, plan_of, Round, ends_with, visits, calls_for, drop_from, drop_while_from}
 use Rattle.seq_plan.specs.Nodes.{first_of, rest_of, holds, is_nil, if_true, now, found}
-use Rattle.lazy_rules.specs.Terms.{drop_rule, drop_round, drop_while_rule, drop_while_round}
+use Rattle.lazy_rows.specs.Terms.{drop_rule, drop_round, drop_while_rule, drop_while_round}
 use Rattle.seq_meaning.specs.Names.{Name}
 use Rattle.seq_table.specs.Table.{language}
 use Rattle.seq_table.specs.World.{World, names_world, Seen, cut, done, ◌▸◌, Comes, comes_seq, comes_go, CallTo, Begins, not_read, asked, at_end, element}

@@ -13,7 +13,7 @@ use Rattle.seq_plan.specs.Nodes.{make_term}
 use Rattle.seq_plan.specs.Stages.{fresh, reduces, answer_of}
 use Rattle.seq_plan.proofs.StageLoops.{list_values}
 use Rattle.seq_plan.proofs.StageThens.{then_enter_each}
-use Rattle.fold_rules.specs.Table.{reduce_through, fold_group, fold_at_most, fold_items}
+use Rattle.fold_rows.specs.Table.{reduce_through, fold_group, fold_at_most, fold_items}
 use Rattle.seq_meaning.specs.Names.{Name}
 use Rattle.seq_meaning.specs.Gives.{work, of_term, Part, Gives}
 use Rattle.seq_table.specs.Table.{language}

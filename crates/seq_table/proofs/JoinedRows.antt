@@ -8,7 +8,7 @@ use Rattle.seq_plan.specs.Plan.{Plan, give, call}
 use Rattle.seq_plan.specs.Nodes.{first_of, rest_of, with_items, chunk_of, make_term}
 use Rattle.seq_plan.specs.Lists.{lazily}
 use Rattle.seq_plan.specs.Sound.{Sound, SoundList, sound_item}
-use Rattle.lazy_rules.specs.Terms.{concat_on, concat_rule, mapcat_rule}
+use Rattle.lazy_rows.specs.Terms.{concat_on, concat_rule, mapcat_rule}
 use Rattle.seq_table.specs.World.{World, Seen, cut, done, ◌▸◌, SeqTo, Comes, comes_seq, comes_call, comes_make, CallTo, Begins, not_read}
 use Rattle.seq_table.specs.Lists.{◌▸▸◌, followed, ShowsSound, Joined, joined_cut, joined_done, joined_more, spread_done, spread_more, Meant, of_concat, of_mapcat, HasList, has_concat, has_mapcat, At, stops, shows, leads, joins, is_rest}
 use Rattle.seq_table.proofs.Seqs.{given, given_value, seq_sound, of_seq, front, SeqCases, at_none, at_some, seq_cases}

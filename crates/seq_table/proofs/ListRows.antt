@@ -6,7 +6,7 @@ use Rattle.seq_values.specs.Model.{Value, nil, int, cell, cons, no_values, ◌&�
 use Rattle.seq_plan.specs.Plan.{Plan, give, call}
 use Rattle.seq_plan.specs.Nodes.{first_of, rest_of, holds, if_true}
 use Rattle.seq_plan.specs.Lists.{first_and, with_seq}
-use Rattle.lazy_rules.specs.Terms.{take_rule, take_while_rule, next_one_rule, repeat_rule, cycle_on, cycle_rule}
+use Rattle.lazy_rows.specs.Terms.{take_rule, take_while_rule, next_one_rule, repeat_rule, cycle_on, cycle_rule}
 use Rattle.seq_table.specs.World.{World, Seen, done, ◌▸◌, SeqTo, Comes, comes_seq, comes_call, comes_make, CallTo, Begins, not_read}
 use Rattle.seq_table.specs.Lists.{taken_all, taken_done, taken_more, while_done, while_in, while_out, iterated_more, repeated_more, cycled_more, cycled_again, cycled_none, Meant, of_take, of_take_while, of_next, of_repeat, of_cycle, HasList, has_take, has_take_while, has_next, has_repeat, has_cycle, At, stops, shows, leads}
 use Rattle.seq_table.proofs.Seqs.{given, given_value, front, SeqCases, at_none, at_some, seq_cases}

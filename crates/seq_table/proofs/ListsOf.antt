@@ -2,7 +2,7 @@
 use Rattle.std.proofs.Common.{◌≡◌, refl, ap, sym, subst, ℕ, List, [], ◌∷◌, ◌++◌}
 use Rattle.seq_values.specs.Model.{Value, cell, Term, gave}
 use Rattle.clj_script.specs.Trees.{Program}
-use Rattle.lazy_rules.specs.Terms.{concat_rule}
+use Rattle.lazy_rows.specs.Terms.{concat_rule}
 use Rattle.seq_values.specs.declared.words.Op.TheVariants as O
 use Rattle.seq_meaning.specs.Evaluates.{term_plan}
 use Rattle.seq_plan.specs.Nodes.{first_of, rest_of}

@@ -7,8 +7,8 @@ use Rattle.seq_plan.specs.Plan.{Plan, give}
 use Rattle.seq_plan.specs.Nodes.{first_of, rest_of, with_items, chunk_of, make_term}
 use Rattle.seq_plan.specs.Sound.{Sound}
 use Rattle.seq_plan.specs.Lists.{first_and, items_and}
-use Rattle.lazy_rules.specs.Terms.{where_some, sift, one_or_cell, sift_on, keep_rule}
-use Rattle.ahead_rules.specs.Table.{near_rule}
+use Rattle.lazy_rows.specs.Terms.{where_some, sift, one_or_cell, sift_on, keep_rule}
+use Rattle.ahead_rows.specs.Table.{near_rule}
 use Rattle.seq_table.specs.World.{World, Seen, ◌▸◌, SeqTo, Comes, comes_seq, comes_call, comes_make, CallTo}
 use Rattle.seq_table.specs.Lists.{◌▸▸◌, ShowsSound, Kept, kept_done, kept_in, kept_out, Meant, of_keep, of_near, has_keep, has_near, At, leads}
 use Rattle.seq_table.proofs.Seqs.{given, given_value, seq_sound, of_seq, front, NilOr, it_is, it_isnt, nil_or, SeqCases, at_none, at_some, seq_cases}

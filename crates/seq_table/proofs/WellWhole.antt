@@ -12,12 +12,12 @@ use Rattle.seq_plan.specs.Plan.{Loop, nth_from, last_from, count_from, gather_fr
 use Rattle.seq_plan.specs.WellFormed.{sights, Well, WellList, well_end, well_item}
 use Rattle.seq_plan.specs.Keeping.{Variables, Given, Keeps, keeps_throw, KeepsRound, keeps_fail, KeepsRules}
 use Rattle.seq_plan.proofs.WellNodes.{keeps-either}
-use Rattle.core_fns.proofs.WellCore.{keeps-core_call, keeps-core_function}
-use Rattle.lazy_rules.proofs.WellTable.{keeps-walk_call, keeps-lazy_term, keeps-walk_round}
-use Rattle.xf_stages.proofs.WellTable.{keeps-stage_call, keeps-pull_term, keeps-stage_round}
-use Rattle.ahead_rules.proofs.WellAhead.{keeps-ahead_call, keeps-ahead_term, keeps-ahead_round}
-use Rattle.fold_rules.specs.Table.{is_reducer}
-use Rattle.fold_rules.proofs.WellFolds.{keeps-fold_call, keeps-fold_term}
+use Rattle.core_rows.proofs.WellCore.{keeps-core_call, keeps-core_function}
+use Rattle.lazy_rows.proofs.WellTable.{keeps-walk_call, keeps-lazy_term, keeps-walk_round}
+use Rattle.stage_rows.proofs.WellTable.{keeps-stage_call, keeps-pull_term, keeps-stage_round}
+use Rattle.ahead_rows.proofs.WellAhead.{keeps-ahead_call, keeps-ahead_term, keeps-ahead_round}
+use Rattle.fold_rows.specs.Table.{is_reducer}
+use Rattle.fold_rows.proofs.WellFolds.{keeps-fold_call, keeps-fold_term}
 use Rattle.seq_meaning.proofs.WellPrints.{keeps-value_round, keeps-rest_round, keeps-print_rule}
 use Rattle.seq_table.specs.Table.{over, reduce_row, into_row, on_word, on_call, on_term, on_loop, rules_of}
 

@@ -4,7 +4,7 @@ use Rattle.seq_values.specs.declared.words.Kind.{Kind}
 use Rattle.seq_values.specs.Model.{Value, Term, gave}
 use Rattle.clj_script.specs.Trees.{Program}
 use Rattle.seq_plan.specs.Plan.{give}
-use Rattle.fold_rules.specs.Table.{fold_items}
+use Rattle.fold_rows.specs.Table.{fold_items}
 use Rattle.seq_meaning.specs.Names.{Name}
 use Rattle.seq_meaning.specs.Gives.{Task, of_term, work, task_plan, Of, Part, Gives}
 use Rattle.seq_plan.specs.Alike.{Like}

@@ -2,7 +2,7 @@
 use Rattle.std.specs.Prelude.{ℕ, ◌/◌, ◌<◌, ◌≤◌, List, [], ◌∷◌, length, take, drop}
 use Rattle.seq_values.specs.Model.{Value, vector, values}
 use Rattle.seq_plan.specs.Plan.{give}
-use Rattle.fold_rules.specs.Table.{reduce_through}
+use Rattle.fold_rows.specs.Table.{reduce_through}
 use Rattle.seq_table.specs.World.{World, Comes, CallTo}
 
 module _ {C : Type 0} (w : World C) (defs : List (Value C)) (size : ℕ) (combine f : Value C) (stages : List (Value C)) where

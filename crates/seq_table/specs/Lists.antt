@@ -9,7 +9,7 @@ use Rattle.seq_plan.specs.Nodes.{first_of, rest_of, holds, now, asks_for, found}
 use Rattle.seq_plan.specs.Lists.{list_of}
 use Rattle.seq_plan.specs.Sound.{Sound, SoundList}
 use Rattle.seq_plan.specs.Stages.{gathers, is_transducer, stages_of, fresh, standing, enter, complete}
-use Rattle.xf_stages.specs.Table.{replaced}
+use Rattle.stage_rows.specs.Table.{replaced}
 use Rattle.seq_meaning.specs.Counts.{IsIn}
 use Rattle.seq_meaning.specs.Evaluates.{term_plan}
 use Rattle.seq_table.specs.World.{World, Seen, cut, done, ◌▸◌, script_in, Comes, CallTo, Begins}

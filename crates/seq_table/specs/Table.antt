@@ -9,11 +9,11 @@ use Rattle.seq_values.specs.declared.words.Target.{Target}
 use Rattle.seq_values.specs.declared.words.Target.TheVariants as T
 use Rattle.seq_values.specs.Model.{Value}
 use Rattle.seq_plan.specs.Plan.{Plan, throw, Loop, nth_from, last_from, count_from, gather_from, doall_from, every_from, some_from, equal_from, reduce_from, enter_from, drop_from, drop_while_from, parts_from, pull_from, ahead_from, print_value, print_rest, Round, fails, Rules}
-use Rattle.core_fns.specs.Table.{core_call, core_function}
-use Rattle.lazy_rules.specs.Table.{walk_call, lazy_term, walk_round}
-use Rattle.xf_stages.specs.Table.{stage_call, pull_term, stage_round}
-use Rattle.ahead_rules.specs.Table.{ahead_call, ahead_term, ahead_round}
-use Rattle.fold_rules.specs.Table.{is_reducer, fold_call, fold_term}
+use Rattle.core_rows.specs.Table.{core_call, core_function}
+use Rattle.lazy_rows.specs.Table.{walk_call, lazy_term, walk_round}
+use Rattle.stage_rows.specs.Table.{stage_call, pull_term, stage_round}
+use Rattle.ahead_rows.specs.Table.{ahead_call, ahead_term, ahead_round}
+use Rattle.fold_rows.specs.Table.{is_reducer, fold_call, fold_term}
 use Rattle.seq_meaning.specs.Prints.{value_round, rest_round, print_rule}
 
 -- elements of a chunk of a range or of a vector's seq, and outputs of a pull

@@ -1,5 +1,0 @@
-use Rattle.core_fns.proofs.AlikeCore.{like-core_call}
-use Rattle.core_fns.proofs.law_calls_rename.Goals as goal
-
-pub returns : goal.returns
-returns c = λ test word xs ys h. like-core_call word h

@@ -1,5 +1,0 @@
-use Rattle.core_fns.proofs.AlikeCore.{like-core_function}
-use Rattle.core_fns.proofs.law_functions_rename.Goals as goal
-
-pub returns : goal.returns
-returns c = λ test t bs cs xs ys p q. like-core_function t p q

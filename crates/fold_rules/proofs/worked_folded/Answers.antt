@@ -1,5 +1,0 @@
-use Rattle.std.proofs.Common.{refl}
-use Rattle.fold_rules.proofs.worked_folded.Goals as goal
-
-pub returns : goal.returns
-returns c = λ combine f x y w k. (refl, refl)

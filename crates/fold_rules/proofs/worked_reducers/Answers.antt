@@ -1,5 +1,0 @@
-use Rattle.std.proofs.Common.{refl}
-use Rattle.fold_rules.proofs.worked_reducers.Goals as goal
-
-pub returns : goal.returns
-returns c = (λ a b. refl, λ a b. refl, λ a b. refl, λ a b. refl, λ a. refl, λ a b. refl)

@@ -1,0 +1,5 @@
+use Rattle.std.proofs.Common.{refl}
+use Rattle.stage_rows.proofs.worked_dropped.Goals as goal
+
+pub returns : goal.returns
+returns c = (λ a b. refl, λ a b. refl, λ a b z. refl, λ a b z. refl)

@@ -1,5 +1,0 @@
-use Rattle.std.proofs.Common.{refl}
-use Rattle.xf_stages.proofs.worked_grouped.Goals as goal
-
-pub returns : goal.returns
-returns c = (λ a. refl, λ a. refl, λ a. refl, λ a b. refl, λ a. refl)
