@@ -100,7 +100,7 @@ TrailPasses = (script : Script ℕ) (limit : ℕ) (whole : Plan ℕ) (n : ℕ) (
 
 -- A trail in numbers, whose answers are given by the names of the parts that were asked and whose makes have names, goes the same way in names. The test tells which name a number has.
 abbrev pub TrailInNames : Type 0
-TrailInNames = (rules : Rules Name) (program : Program) (limit : ℕ) (test : ℕ → Name → Bool) (s : Script ℕ) (t : Script Name) (whole : Plan ℕ) (other : Plan Name) (n : ℕ) (p : Plan ℕ) (asked : List (ℕ × Outcome ℕ)) (mades : List (ℕ × Made ℕ)) → LikeScript (Tells test) s t → LikePlan (Tells test) whole other → Trail s limit whole n p asked mades → HasLikes (Tells test) (Gives rules program limit) asked mades → Follows (Tells test) (Gives rules program limit) t limit other n p asked mades
+TrailInNames = (rules : Rules Name) (program : Program) (limit : ℕ) (test : ℕ → Name → Bool) (named : ℕ → Name) (s : Script ℕ) (t : Script Name) (whole : Plan ℕ) (other : Plan Name) (n : ℕ) (p : Plan ℕ) (asked : List (ℕ × Outcome ℕ)) (mades : List (ℕ × Made ℕ)) → LikeScript (Tells test) s t → LikePlan (Tells test) whole other → Trail s limit whole n p asked mades → HasLikes (Tells test) named (Gives rules program limit) asked mades → Follows (Tells test) named (Gives rules program limit) t limit other n p asked mades
 
 -- A trail of an evaluation's work in its own names, whose answers are given by the parts that were asked, has true answers.
 abbrev pub TrailIsTrue : Type 0

@@ -13,3 +13,4 @@ pub mod SmallTable
 pub mod Worked
 pub mod Follows
 pub mod Laws
+pub mod Referred
