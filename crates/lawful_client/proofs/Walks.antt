@@ -1,5 +1,5 @@
 -- How the two works of the script go on by themselves, between the calls.
-use Rattle.std.proofs.Common.{◌≡◌, ℕ, suc, [], false, length, Some, slice_get, refl, ap, sym, subst, ◌∙◌}
+use Rattle.std.proofs.Common.{◌≡◌, ℕ, suc, List, [], true, false, length, Some, slice_get, refl, ap, sym, subst, ◌∙◌}
 use Rattle.seq_values.specs.declared.words.Kind.TheVariants.{Lazy}
 use Rattle.seq_values.specs.declared.term.Term.{Term as CodedTerm}
 use Rattle.seq_values.specs.Model.{Term}
@@ -13,8 +13,10 @@ use Rattle.cell_book.specs.Account.{Account, Duty, begun_in}
 use Rattle.cell_book.specs.Glimpses.{Glimpse, glimpse}
 use Rattle.seq_lawful.specs.Sites.{FormDone}
 use Rattle.seq_lawful.specs.Runs.{script_in, OnRun, MayBegin}
+use Rattle.seq_table.specs.Table.{language}
+use Rattle.seq_lawful.proofs.New.{new_lawful}
 use Rattle.seq_lawful.proofs.Going.{on_walked}
-use Rattle.lawful_client.specs.OneMap.{the_form, one_map, steps, table, whole_map, rest_map, form_calls, form_makes, prints_first, one_before, part_makes, form_gives, form_waits}
+use Rattle.lawful_client.specs.OneMap.{the_form, one_map, steps, IsGood, KeepsGood, IsNew, table, whole_map, rest_map, form_calls, form_makes, prints_first, one_before, part_makes, form_gives, form_waits}
 
 module _ (g : Glimpse) (w : Duty) where
   pub form_starts : OnRun table one_map steps g w 8 (form_plan (script_in table one_map steps w.outcomes) the_form) → OnRun table one_map steps g w 6 form_makes
@@ -45,3 +47,10 @@ may_begin a none unspent = record {
 -- the term that is made is the plan's
 pub make_so : (rules : Rules ℕ) (program : Program) (limit : ℕ) (g : Glimpse) (w : Duty) (n : ℕ) (k : ℕ → Plan ℕ) {t : Term ℕ} (u : CodedTerm) → plain_term u ≡ t → OnRun rules program limit g w n (make Lazy t k) → OnRun rules program limit g w n (make Lazy (plain_term u) k)
 make_so rules program limit g w n k u e r = subst (λ x. OnRun rules program limit g w n (make Lazy x k)) (sym e) r
+
+-- a new book
+pub new_good : (a : Account) (cells : ℕ) → a ≡ record { limit = cells; cells = []; forms = []; spent = false; gave_up = false } → (law : Account → Type 0) → KeepsGood true law (λ b. b ≡ a)
+new_good a cells new law = λ b e. subst IsGood (sym (e ∙ new)) (new_lawful (language 4) one_map steps cells)
+
+pub new_book : (a : Account) (cells : ℕ) → a ≡ record { limit = cells; cells = []; forms = []; spent = false; gave_up = false } → IsNew (λ b. b ≡ a) (glimpse a)
+new_book a cells new = record { book = a; known = refl; no_forms = ap (λ (x : Account). x.forms) new; unspent = ap (λ (x : Account). x.spent) new; none_seen = ap (λ (x : Account). begun_in x.forms) new }

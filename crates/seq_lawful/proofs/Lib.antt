@@ -1,3 +1,5 @@
+pub mod Growth
+pub mod NextSteps
 pub mod More
 pub mod Named
 pub mod Names

@@ -22,7 +22,7 @@ use Rattle.seq_meaning.specs.Referred.{referred}
 use Rattle.seq_lawful.specs.Refers.{InList, Reaches}
 use Rattle.seq_lawful.specs.Sites.{Mode, any_name, Site, at_form, at_cell, ClaimAt, on_cell, HasMade, has_made}
 use Rattle.seq_lawful.specs.Lawful.{ClaimName, Lawful}
-use Rattle.seq_lawful.specs.Steps.{MakesNext}
+use Rattle.seq_lawful.proofs.NextSteps.{MakesNext}
 use Rattle.seq_lawful.specs.Runs.{MadeIn, OnRun}
 use Rattle.seq_lawful.proofs.Bridge.{term_seen}
 use Rattle.seq_lawful.proofs.Premises.{on_makes}

@@ -21,8 +21,8 @@ use Rattle.seq_lawful.specs.Refers.{InList, Refers, by_term, by_kept, by_done, b
 use Rattle.seq_lawful.specs.Sites.{Mode, any_name, own_name, Site, at_cell, ClaimAt, on_form, on_cell, Founded, HasAsker, has_asker, HasMade, StateOf, so_empty}
 use Rattle.seq_lawful.specs.Lawful.{CellName, cell_name, ClaimName, form_name, future_name, failing_name, other_name, called, IsPartOf, is_part_of, GivesSo, gives_so, Lawful}
 use Rattle.seq_lawful.specs.Runs.{in_value}
-use Rattle.seq_lawful.specs.Steps.{MakesNext, makes_next}
-use Rattle.seq_lawful.specs.Growth.{Grown}
+use Rattle.seq_lawful.proofs.NextSteps.{MakesNext, makes_next}
+use Rattle.seq_lawful.proofs.Growth.{Grown}
 use Rattle.seq_lawful.proofs.More.{as-list, as-term, value_has, list_has, term_has}
 use Rattle.seq_lawful.proofs.Named.{founded_of, some_name}
 use Rattle.seq_lawful.proofs.Looking.{tells}

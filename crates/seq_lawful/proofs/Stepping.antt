@@ -23,7 +23,7 @@ use Rattle.seq_meaning.specs.Referred.{referred}
 use Rattle.seq_lawful.specs.Refers.{InValue, InList, Refers, by_term, by_kept, by_done, by_make, Reaches, reach_one, reach_more}
 use Rattle.seq_lawful.specs.Sites.{Mode, own_name, Site, at_form, at_cell, ClaimAt, on_form, on_cell, Founded, HasAsker, has_asker, HasMade, Ended, ended_threw, ended_cell, ended_form, Lost, lost_given_up, lost_failed, StateOf, so_empty, so_forcing, so_done, so_failed, ValueOf, value_open, value_gave, value_threw, value_given_up}
 use Rattle.seq_lawful.specs.Lawful.{Needs, CellName, cell_name, ClaimName, IsPartOf, EndsSo, Lawful}
-use Rattle.seq_lawful.specs.Growth.{later_in, Later, FormLater, Grown}
+use Rattle.seq_lawful.proofs.Growth.{later_in, Later, FormLater, Grown}
 use Rattle.seq_lawful.proofs.Named.{founded_of}
 use Rattle.seq_lawful.proofs.Looking.{in_split}
 use Rattle.seq_lawful.proofs.Growing.{AtCell, at_cell_so, AtForm, at_form_so, claim_on_cell, claim_on_form, made_more, WasAt, was_at, was, cell_less, claim_less, founded_more, part_more, ends_more, asker_founded}

@@ -25,7 +25,7 @@ use Rattle.seq_meaning.specs.Referred.{referred}
 use Rattle.seq_lawful.specs.Sites.{Mode, own_name, at_form, at_cell, on_form, on_cell, Founded}
 use Rattle.seq_lawful.specs.Lawful.{ClaimName, form_name, future_name, failing_name, other_name, EndsSo, Lawful}
 use Rattle.seq_lawful.specs.Runs.{IsBefore, script_in, Stands, stands_part, stands_form, OnRun}
-use Rattle.seq_lawful.specs.Steps.{MakesNext}
+use Rattle.seq_lawful.proofs.NextSteps.{MakesNext}
 use Rattle.seq_lawful.proofs.More.{as-list}
 use Rattle.seq_lawful.proofs.Named.{founded_of, not_on_form}
 use Rattle.seq_lawful.proofs.Looking.{last_is}

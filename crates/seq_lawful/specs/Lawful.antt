@@ -29,7 +29,7 @@ pub data AtEnd : Plan Name → Outcome Name → Type 0 where
   at_throw : {why : Thrown} → AtEnd (throw why) (threw why)
 
 module _ (rules : Rules Name) (program : Program) (limit : ℕ) where
-  -- the part's name is a claim's name too
+  -- the part's name is its claims' name too
   pub data Keeps : Mode → Name → Type 0 where
     keeps_any : {n : Name} → Keeps any_name n
     keeps_own : {n : Name} → ((why : Thrown) → ¬ (Gives rules program limit n (threw why))) → Keeps own_name n
@@ -40,11 +40,11 @@ module _ (rules : Rules Name) (program : Program) (limit : ℕ) where
 
   module _ (a : Account) (mode : Mode) where
     mutual
-      -- the name of the cell with a number
+      -- the name of the cell with a number: that of its maker, and its ordinal
       pub data CellName : ℕ → Name → Type 0 where
         cell_name : {id : ℕ} {p : Cell} {e : Name} → cell_at a id ≡ Some p → ClaimName p.maker e → CellName id (part e p.ordinal)
 
-      -- the name of the claim with a number
+      -- The name of the claim with a number. A form's claim has the form's name, a future's the future's. A claim on a lazy part that gives an error is the retry of its asker, else it has the part's name.
       pub data ClaimName : ℕ → Name → Type 0 where
         form_name : {c k : ℕ} {f : Form} → slice_get a.forms k ≡ Some f → f.attempt.claim ≡ c → ClaimName c (form (suc k))
         future_name : {c id : ℕ} {p : Cell} {x : Attempt} {n : Name} → cell_at a id ≡ Some p → IsIn x p.attempts → x.claim ≡ c → p.kind ≡ Future → CellName id n → ClaimName c n
@@ -78,31 +78,35 @@ module _ (rules : Rules Name) (program : Program) (limit : ℕ) where
       ends_so : {defs : List (Value Name)} {task : Task} {left : ℕ} {q : Plan Name} {asks : List (Name × Outcome Name)} {makes : List (Name × Made Name)} {u : Outcome Name} → Of rules program limit e (work defs task) → Trail (script_of rules program limit defs) limit (task_plan rules program limit defs task) left q asks makes → Calls (λ j. part e j) makes → ((n : Name) (r : Outcome Name) → IsIn (n, r) asks → Told c n r) → AtEnd q u → LikeOutcome called o u → ((j : ℕ) (m : Name × Made Name) → slice_get makes j ≡ Some m → HasMade a c (suc j)) → EndsSo c e o
 
   module _ (a : Account) where
+    -- A lawful book. It says nothing of how a book came about.
     pub record Lawful : Type 0 where
-      -- names are apart, and so are the numbers of claims
+      -- Names are apart: no two cells have one name, and no two records of claims have one number.
       pub one_cell_each : (i j : ℕ) (n : Name) → CellName a own_name i n → CellName a own_name j n → i ≡ j
       pub one_claim_each : (s t : Site) (x y : Attempt) → ClaimAt a s x → ClaimAt a t y → x.claim ≡ y.claim → (s ≡ t) × (x ≡ y)
-      -- each cell is the part of its names
+      -- Each cell is the part of each of its names.
       pub parts : (mode : Mode) (id : ℕ) (p : Cell) (n : Name) → cell_at a id ≡ Some p → CellName a mode id n → IsPartOf a mode p n
-      -- makers and askers are claims of the book
+      -- Makers and askers are claims of the book, back to the forms. Whoever asked for a lazy part needs it.
       pub makers : (id : ℕ) (p : Cell) → cell_at a id ≡ Some p → Founded a p.maker
       pub askers : (id : ℕ) (p : Cell) (x : Attempt) → cell_at a id ≡ Some p → IsIn x p.attempts → p.kind ≡ Lazy → HasAsker a x
       pub asked : (id : ℕ) (p : Cell) (x : Attempt) (b : ℕ) (n e : Name) → cell_at a id ≡ Some p → IsIn x p.attempts → p.kind ≡ Lazy → x.asker ≡ Some b → CellName a own_name id n → ClaimName a own_name b e → Needs e n
+      -- No two claims have one name, until a make was refused for the limit.
       pub claims_apart : a.spent ≡ false → (c d : ℕ) (e : Name) → ClaimName a own_name c e → ClaimName a own_name d e → c ≡ d
-      -- what a claim ended by is what each of its names gives, and what it asked and made stands in the book
+      -- What a claim ended by is what each of its names gives, and what it asked and made stands in the book.
       pub ended : (mode : Mode) (s : Site) (x : Attempt) (o : Outcome ℕ) (e : Name) → ClaimAt a s x → Ended a s x o → ClaimName a mode x.claim e → EndsSo a mode x.claim e o
-      -- no attempt stands twice at a cell
+      -- No attempt stands twice at a cell.
       pub attempts_once : (id : ℕ) (p : Cell) → cell_at a id ≡ Some p → Distinct p.attempts
+      -- A claim's makes have the ordinals from 1 on without a gap.
       pub no_gaps : (id : ℕ) (p : Cell) (j : ℕ) → cell_at a id ≡ Some p → suc j < p.ordinal → HasMade a p.maker (suc j)
-      -- states, values and notes
+      -- The state of a cell and the value of a form are those that the claims left; whoever was given up is noted.
       pub states : (id : ℕ) (p : Cell) → cell_at a id ≡ Some p → StateOf p.kind p.attempts p.state
       pub values : (k : ℕ) (f : Form) → slice_get a.forms k ≡ Some f → ValueOf f
       pub noted : (s : Site) (x : Attempt) → ClaimAt a s x → x.end ≡ E.GivenUp → a.gave_up ≡ true
-      -- the limit
+      -- The cells are within the limit, and a make was refused only where the forms begun make more parts than that.
       pub within : length a.cells ≤ a.limit
       pub spent_at_limit : a.spent ≡ true → a.limit ≤ length a.cells
       pub spent_over : a.spent ≡ true → ¬ (Fits rules program limit a.limit (length a.forms))
-      -- the forms are the program's, in order, and all but the last are done
+      -- The forms begun are the first ones of the program, in order, and all but the last are done.
       pub forms_are : (k : ℕ) (f : Form) → slice_get a.forms k ≡ Some f → (f.number ≡ suc k) × (t : Top) × (slice_get program.tops k ≡ Some t)
       pub forms_done : (k : ℕ) (f : Form) → slice_get a.forms k ≡ Some f → suc k < length a.forms → FormDone program k f
+      -- No cell reaches itself.
       pub acyclic : (id : ℕ) → ¬ (Reaches program.tops a id id)

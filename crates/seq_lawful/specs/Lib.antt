@@ -3,8 +3,6 @@ pub mod Sites
 pub mod Lawful
 pub mod Renaming
 pub mod Runs
-pub mod Steps
-pub mod Growth
 pub mod KeepingLaws
 pub mod Rest
 pub mod RestLaws

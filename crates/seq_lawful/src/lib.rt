@@ -65,7 +65,7 @@ pub fn law_spent_is_over()
     ensures { SpentIsOver }
 {}
 
-/// A book grows over each step, and one at rest stays the same until a form is begun.
-pub fn steps_grow()
+/// A book grows over each step and over any number of them; a quiet one stays the same until a form is begun.
+pub fn law_steps_grow()
     ensures { StepsGrow }
 {}
