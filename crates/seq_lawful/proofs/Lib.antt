@@ -32,3 +32,4 @@ pub mod Sizes
 pub mod Counted
 pub mod Begun
 pub mod Grows
+pub mod Turned

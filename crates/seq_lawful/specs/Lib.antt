@@ -7,3 +7,4 @@ pub mod KeepingLaws
 pub mod Rest
 pub mod RestLaws
 pub mod Grows
+pub mod Turned

@@ -4,6 +4,7 @@
 ghost use Rattle.seq_lawful.specs.KeepingLaws.{LawKeeps, NewIsLawful};
 ghost use Rattle.seq_lawful.specs.RestLaws.{Rests, OneOwnName, NamedAtRest, NamesAtRest, CountedAtRest, EndedGives, CellGives, GivesAtRest, FormGives, SpentIsOver};
 ghost use Rattle.seq_lawful.specs.Grows.{StepsGrow};
+ghost use Rattle.seq_lawful.specs.Turned.{TurnedSteps};
 
 /// Each step keeps a book lawful.
 pub fn law_keeps()
@@ -68,4 +69,9 @@ pub fn law_spent_is_over()
 /// A book grows over each step and over any number of them; a quiet one stays the same until a form is begun.
 pub fn law_steps_grow()
     ensures { StepsGrow }
+{}
+
+/// A give-up that isn't noted, and a lazy part that keeps an error, leave no lawful book.
+pub fn law_turned_steps()
+    ensures { TurnedSteps }
 {}
