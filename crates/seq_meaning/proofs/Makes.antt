@@ -8,7 +8,7 @@ use Rattle.seq_plan.specs.Nodes.{Found, now, asks_for, no_seq, found}
 use Rattle.seq_meaning.specs.Evaluates.{Script, called as entered_plan}
 use Rattle.seq_meaning.specs.Reached.{also_all}
 use Rattle.seq_meaning.specs.Trail.{Trail, answers_of, mades_of, Calls}
-use Rattle.seq_meaning.specs.Walk.{Made, made, Run, needs, ends, over, makes_of, also, at_found, at_round, Due, enters, asks, Rest, walk_by, answered, spent, walk}
+use Rattle.seq_meaning.specs.Walk.{Made, made, Run, needs, ends, over, makes_of, also, at_found, at_round, Due, enters, asks, Rest, walk_by, meets_answer, spent, walk}
 use Rattle.seq_meaning.proofs.Trails.{trails}
 
 -- a walk without more answers is not over
@@ -42,14 +42,14 @@ module _ {C : Type 0} (script : Script C) (cell_of : ℕ → C) where
   not_walk_by due h (give v) j e = absurd cc
   not_walk_by due h (throw x) j e = absurd cc
 
-  not_answered : (on : Plan C → Rest C) → ((p : Plan C) (j : ℕ) → NotOver (on p j [])) → (d : Due C) (j : ℕ) → NotOver (answered script cell_of on d j [])
+  not_answered : (on : Plan C → Rest C) → ((p : Plan C) (j : ℕ) → NotOver (on p j [])) → (d : Due C) (j : ℕ) → NotOver (meets_answer script cell_of on d j [])
   not_answered on h (enters p) j e = h p j e
   not_answered on h (asks c k) j e = absurd cc
 
   pub not_over : (n : ℕ) (p : Plan C) (j : ℕ) → NotOver (walk script cell_of n p j [])
   unfolding walk
   not_over zero p j = not_walk_by (spent script cell_of) (λ d j e. absurd cc) p j
-  not_over (suc n) p j = not_walk_by (answered script cell_of (walk script cell_of n)) (not_answered (walk script cell_of n) (not_over n)) p j
+  not_over (suc n) p j = not_walk_by (meets_answer script cell_of (walk script cell_of n)) (not_answered (walk script cell_of n) (not_over n)) p j
 
   all_needs : (c : C) (ms ns : List (Made C)) → also_all ms (needs c ns) ≡ needs c (ms ++ ns)
   all_needs c [] ns = refl

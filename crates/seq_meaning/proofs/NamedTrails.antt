@@ -50,22 +50,22 @@ module _ (same : ℕ → Name → Type 0) (rules : Rules Name) (program : Progra
   pub in_names : {left : ℕ} {plan : Plan ℕ} {asked : List (ℕ × Outcome ℕ)} {mades : List (ℕ × Made ℕ)} → Under left plan asked mades → GoesInNames same rules program limit named e defs task left plan asked mades
   in_names t =
       let f = follows (by same) named (Gives rules program limit) t.like_script limit t.like_whole t.trail t.likes in
-      record { follows = f; is_true = true_so rules program limit t.of f.trail (calls_on t f.like_makes) (good_all f.like_asks) }
+      record { follows = f; is_true = true_so rules program limit t.of f.trail (calls_on t f.like_makes) (good_all f.like_asks); calls = calls_on t f.like_makes }
 
   pub on_needs : {left c : ℕ} {k : Value ℕ → Plan ℕ} {asked : List (ℕ × Outcome ℕ)} {mades : List (ℕ × Made ℕ)} → Under (suc left) (ask c k) asked mades → NeedsCell same rules program limit e (work defs task) c
-  on_needs {left = left} {c = c} {k = k} {mades = mades} t = let g = in_names t in at g.follows.like_plan (calls_on t g.follows.like_makes) g.follows.trail g.is_true
+  on_needs {left = left} {c = c} {k = k} {mades = mades} t = let g = in_names t in at g.follows.like_plan g.calls g.follows.trail g.is_true
     where
       at : {q : Plan Name} {asks : List (Name × Outcome Name)} {makes : List (Name × Made Name)} → LikePlan (by same) (ask c k) q → Calls (λ j. part e j) makes → TrailHere (suc left) q asks makes → TrueHere asks → NeedsCell same rules program limit e (work defs task) c
       at {asks = asks} {makes = makes} (like_ask {d = d} {h = h} x y) co u s = needs_cell x s.all_true (same_run rules program limit t.of s.answers (answers_of asks) s.order ∙ trail_needs (script_of rules program limit defs) (λ j. part e j) limit (task_plan rules program limit defs task) left d h asks makes u co)
 
   pub on_gives : {left : ℕ} {v : Value ℕ} {asked : List (ℕ × Outcome ℕ)} {mades : List (ℕ × Made ℕ)} → Under left (give v) asked mades → GivesLike same rules program limit e v
-  on_gives {left = left} {v = v} t = let g = in_names t in at g.follows.like_plan (calls_on t g.follows.like_makes) g.follows.trail g.is_true
+  on_gives {left = left} {v = v} t = let g = in_names t in at g.follows.like_plan g.calls g.follows.trail g.is_true
     where
       at : {q : Plan Name} {asks : List (Name × Outcome Name)} {makes : List (Name × Made Name)} → LikePlan (by same) (give v) q → Calls (λ j. part e j) makes → TrailHere left q asks makes → TrueHere asks → GivesLike same rules program limit e v
       at {asks = asks} {makes = makes} (like_give {w = w} x) co u s = gives_like x (gives t.of s.all_true (same_run rules program limit t.of s.answers (answers_of asks) s.order ∙ trail_gives (script_of rules program limit defs) (λ j. part e j) limit (task_plan rules program limit defs task) left w asks makes u co))
 
   pub on_throws : {left : ℕ} {x : Thrown} {asked : List (ℕ × Outcome ℕ)} {mades : List (ℕ × Made ℕ)} → Under left (throw x) asked mades → Gives rules program limit e (threw x)
-  on_throws {left = left} {x = x} t = let g = in_names t in at g.follows.like_plan (calls_on t g.follows.like_makes) g.follows.trail g.is_true
+  on_throws {left = left} {x = x} t = let g = in_names t in at g.follows.like_plan g.calls g.follows.trail g.is_true
     where
       at : {q : Plan Name} {asks : List (Name × Outcome Name)} {makes : List (Name × Made Name)} → LikePlan (by same) (throw x) q → Calls (λ j. part e j) makes → TrailHere left q asks makes → TrueHere asks → Gives rules program limit e (threw x)
       at {asks = asks} {makes = makes} like_throw co u s = gives t.of s.all_true (same_run rules program limit t.of s.answers (answers_of asks) s.order ∙ trail_throws (script_of rules program limit defs) (λ j. part e j) limit (task_plan rules program limit defs task) left x asks makes u co)

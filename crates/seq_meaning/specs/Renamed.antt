@@ -11,7 +11,7 @@ use Rattle.seq_meaning.specs.Evaluates.{Script}
 use Rattle.seq_meaning.specs.Follows.{Follows, HasLikes}
 use Rattle.seq_meaning.specs.Gives.{Work, work, of_term, Task, script_of, task_plan, run, Of, Part, True, Gives}
 use Rattle.seq_meaning.specs.Names.{Name, part}
-use Rattle.seq_meaning.specs.Trail.{Trail}
+use Rattle.seq_meaning.specs.Trail.{Trail, Calls}
 use Rattle.seq_meaning.specs.TrueTrail.{TrueSo}
 use Rattle.seq_meaning.specs.Walk.{Made, needs}
 
@@ -31,6 +31,8 @@ module _ (same : ℕ → Name → Type 0) (rules : Rules Name) (program : Progra
   pub record GoesInNames (named : ℕ → Name) (e : Name) (defs : List (Value Name)) (task : Task) (left : ℕ) (plan : Plan ℕ) (asked : List (ℕ × Outcome ℕ)) (mades : List (ℕ × Made ℕ)) : Type 0 where
     pub follows : Follows (by same) named (Gives rules program limit) (script_of rules program limit defs) limit (task_plan rules program limit defs task) left plan asked mades
     pub is_true : TrueSo rules program limit e (work defs task) follows.asks
+    -- its makes are called by the evaluation and their place
+    pub calls : Calls (λ j. part e j) follows.makes
 
   -- the run needs a name of the cell
   pub data NeedsCell (e : Name) (w : Work) (c : ℕ) : Type 0 where
