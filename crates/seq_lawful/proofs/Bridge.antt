@@ -17,7 +17,7 @@ use Rattle.cell_book.specs.Steps.{HasOpen}
 use Rattle.seq_meaning.specs.Alike.{LikeScript, like_script}
 use Rattle.seq_meaning.specs.Counts.{IsIn, here, there}
 use Rattle.seq_meaning.specs.Evaluates.{term_plan}
-use Rattle.seq_meaning.specs.Follows.{LikeAsked, no_asked, one_asked, LikeNamed, no_named, one_named, Follows, HasLikes}
+use Rattle.seq_meaning.specs.Follows.{LikeAsked, LikeNamed, Follows, HasLikes}
 use Rattle.seq_meaning.specs.Gives.{work, Task, script_of, task_plan, Of}
 use Rattle.seq_meaning.specs.Names.{Name, part}
 use Rattle.seq_meaning.specs.Trail.{Trail, Calls}
@@ -27,6 +27,7 @@ use Rattle.seq_meaning.proofs.TrailsAlike.{follows}
 use Rattle.seq_lawful.specs.Renaming.{NamesRename, Known, SeenFrom}
 use Rattle.seq_meaning.specs.Referred.{referred}
 use Rattle.seq_lawful.specs.Refers.{InValue, InList}
+use Rattle.seq_meaning.proofs.NamedTrails.{named_so, good_all}
 use Rattle.seq_lawful.specs.Sites.{Mode, Site, HasMade, has_made}
 use Rattle.seq_lawful.specs.Lawful.{at_give, at_throw, CellName, cell_name, ClaimName, called, Told, told, GivesSo, gives_so, Answered, EndsSo, ends_so, Lawful}
 use Rattle.seq_lawful.specs.Runs.{MadeIn, script_in, OnRun}
@@ -37,18 +38,6 @@ use Rattle.seq_lawful.proofs.Looking.{last_is, tells, StartsSo, starts_so, start
 pub place_of : {A : Type 0} {x : A} {xs : List A} → IsIn x xs → (j : ℕ) × (slice_get xs j ≡ Some x)
 place_of here = (0, refl)
 place_of (there h) = let r = place_of h in (suc r.0, r.1)
-
-module _ {C : Type 0} {R : Likeness C Name} {named : C → Name} where
-  pub named_so : {xs : List (C × Made C)} {ys : List (Name × Made Name)} → LikeNamed R named xs ys → (i : ℕ) (y : Name × Made Name) → slice_get ys i ≡ Some y → (x : C × Made C) × (slice_get xs i ≡ Some x) × (y.0 ≡ named x.0)
-  named_so no_named i y q = absurd cc
-  named_so (one_named {x = x} {y = z} e m h) zero y q = let p : z ≡ y = cc in (x, refl, sym (ap (λ w. w.0) p) ∙ e)
-  named_so (one_named e m h) (suc i) y q = named_so h i y q
-
-module _ {C : Type 0} {R : Likeness C Name} where
-  pub good_all : {Good : Name → Outcome Name → Type 0} {xs : List (C × Outcome C)} {ys : List (Name × Outcome Name)} → LikeAsked R Good xs ys → (c : Name) (o : Outcome Name) → IsIn (c, o) ys → Good c o
-  good_all no_asked c o i = elim i [ ]
-  good_all (one_asked {y = y} r l g h) c o here = g
-  good_all (one_asked r l g h) c o (there i) = good_all h c o i
 
 module _ (a : Account) where
   abbrev pub part_at : Name → Option Cell → Name

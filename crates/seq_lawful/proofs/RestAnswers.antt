@@ -16,7 +16,7 @@ use Rattle.cell_book.specs.declared.cell.Attempt.{Attempt}
 use Rattle.cell_book.specs.declared.cell.Cell.{Cell}
 use Rattle.cell_book.specs.declared.cell.Form.{Form}
 use Rattle.cell_book.specs.Account.{Account, cell_at, is_open}
-use Rattle.seq_meaning.specs.Counts.{Demand, MadeBy, Realised, Failed, Fits}
+use Rattle.seq_meaning.specs.Counts.{Demand, MadeBy, Realised, Failed, FormsFit}
 use Rattle.seq_meaning.specs.Gives.{Gives}
 use Rattle.seq_meaning.specs.Names.{Name, form, part}
 use Rattle.seq_lawful.specs.Sites.{Mode, own_name, Site, at_form, ClaimAt, on_form, Ended, ended_threw, ended_form, ValueOf, value_open, value_gave, value_threw, value_given_up}
@@ -87,8 +87,8 @@ module _ (rules : Rules Name) (program : Program) (limit : ℕ) (a : Account) (l
       ((λ v s. ended_gives own_name (at_form k) f.attempt (gave (plain v)) (form (suc k)) (on_form at refl) (ended_form f (value_ended (law.values k f at) s) at s) (form_claim at)),
        λ why s. threw_so (ended_gives own_name (at_form k) f.attempt (threw why) (form (suc k)) (on_form at refl) (ended_threw s) (form_claim at)))
 
-  fits_at_rest : AtRest a → Fits rules program limit a.limit (length a.forms)
+  fits_at_rest : AtRest a → FormsFit rules program limit a.limit (length a.forms)
   fits_at_rest rest = λ xs d f. (let n : length xs ≤ length a.cells = at_most (made_size rules program limit a law rest) xs d f in let w = law.within in omega arith)
 
-  pub spent_is_over : (a.spent ≡ true → ¬ (Fits rules program limit a.limit (length a.forms))) × (AtRest a → Fits rules program limit a.limit (length a.forms))
+  pub spent_is_over : (a.spent ≡ true → ¬ (FormsFit rules program limit a.limit (length a.forms))) × (AtRest a → FormsFit rules program limit a.limit (length a.forms))
   spent_is_over = (law.spent_over, fits_at_rest)

@@ -14,7 +14,7 @@ use Rattle.cell_book.specs.declared.cell.Attempt.{Attempt}
 use Rattle.cell_book.specs.declared.cell.Cell.{Cell}
 use Rattle.cell_book.specs.declared.cell.Form.{Form}
 use Rattle.cell_book.specs.Account.{Account, cell_at}
-use Rattle.seq_meaning.specs.Counts.{IsIn, Distinct, Fits}
+use Rattle.seq_meaning.specs.Counts.{IsIn, Distinct, FormsFit}
 use Rattle.seq_meaning.specs.Gives.{Work, work, Task, of_term, script_of, task_plan, run, Of, Part, True, Gives}
 use Rattle.seq_meaning.specs.Names.{Name, form, part, retry}
 use Rattle.seq_meaning.specs.Trail.{Trail, Calls}
@@ -104,7 +104,7 @@ module _ (rules : Rules Name) (program : Program) (limit : ℕ) where
       -- The cells are within the limit, and a make was refused only where the forms begun make more parts than that.
       pub within : length a.cells ≤ a.limit
       pub spent_at_limit : a.spent ≡ true → a.limit ≤ length a.cells
-      pub spent_over : a.spent ≡ true → ¬ (Fits rules program limit a.limit (length a.forms))
+      pub spent_over : a.spent ≡ true → ¬ (FormsFit rules program limit a.limit (length a.forms))
       -- The forms begun are the first ones of the program, in order, and all but the last are done.
       pub forms_are : (k : ℕ) (f : Form) → slice_get a.forms k ≡ Some f → (f.number ≡ suc k) × (t : Top) × (slice_get program.tops k ≡ Some t)
       pub forms_done : (k : ℕ) (f : Form) → slice_get a.forms k ≡ Some f → suc k < length a.forms → FormDone program k f

@@ -14,7 +14,7 @@ use Rattle.cell_book.specs.declared.cell.Cell.{Cell}
 use Rattle.cell_book.specs.declared.cell.Form.{Form}
 use Rattle.cell_book.specs.Account.{Account, cell_at, is_open}
 use Rattle.cell_book.specs.Counts.{totals_of}
-use Rattle.seq_meaning.specs.Counts.{Demand, MadeBy, Realised, Failed, HasSize, Fits}
+use Rattle.seq_meaning.specs.Counts.{Demand, MadeBy, Realised, Failed, HasSize, FormsFit}
 use Rattle.seq_meaning.specs.Gives.{Gives}
 use Rattle.seq_meaning.specs.Names.{Name, form}
 use Rattle.seq_lawful.specs.Sites.{Mode, own_name, Site, ClaimAt, Ended}
@@ -59,4 +59,4 @@ FormGives = (rules : Rules Name) (program : Program) (limit : ℕ) (a : Account)
 
 -- A book in which a make was refused is one whose forms make more parts than the limit. A book at rest is one whose forms make no more. So whether the forms begun fit is told exactly.
 abbrev pub SpentIsOver : Type 0
-SpentIsOver = (rules : Rules Name) (program : Program) (limit : ℕ) (a : Account) → Lawful rules program limit a → (a.spent ≡ true → ¬ (Fits rules program limit a.limit (length a.forms))) × (AtRest a → Fits rules program limit a.limit (length a.forms))
+SpentIsOver = (rules : Rules Name) (program : Program) (limit : ℕ) (a : Account) → Lawful rules program limit a → (a.spent ≡ true → ¬ (FormsFit rules program limit a.limit (length a.forms))) × (AtRest a → FormsFit rules program limit a.limit (length a.forms))
