@@ -7,20 +7,17 @@ use seq_vector::NoMemory;
 use std::test::Fail;
 use std::thread;
 
-fn memory<T>(answer: Result<T, NoMemory>) -> Result<T, Fail> {
-    match answer {
-        Ok(value) => Ok(value),
-        Err(_) => Err(Fail::from("memory")),
-    }
-}
-
 #[test]
 fn a_job_comes_out_once(rt: HostRuntime) -> Result<(), Fail> {
     let Some(first) = CellId::of(1) else {
         return Err(Fail::from("number"));
     };
-    let (pool, mut pass) = memory(JobPool::new(rt.alloc()))?;
-    let mut other = memory(pool.split(&mut pass))?;
+    let Ok((pool, mut pass)) = JobPool::new(rt.alloc()) else {
+        return Err(Fail::from("memory"));
+    };
+    let Ok(mut other) = pool.split(&mut pass) else {
+        return Err(Fail::from("memory"));
+    };
     assert!(rt; pool.push(&rt, &mut pass, first).is_ok());
     assert!(rt; pool.take(&rt, &mut other) == Taken::Job(first));
     assert!(rt; pool.take(&rt, &mut other) == Taken::Nothing);
@@ -35,8 +32,12 @@ fn a_job_comes_out_once(rt: HostRuntime) -> Result<(), Fail> {
 
 #[test]
 fn two_threads_take_each_job_once(rt: HostRuntime) -> Result<(), Fail> {
-    let (pool, mut pass) = memory(JobPool::new(rt.alloc()))?;
-    let mut other = memory(pool.split(&mut pass))?;
+    let Ok((pool, mut pass)) = JobPool::new(rt.alloc()) else {
+        return Err(Fail::from("memory"));
+    };
+    let Ok(mut other) = pool.split(&mut pass) else {
+        return Err(Fail::from("memory"));
+    };
     let pool = &pool;
     let rt = &rt;
     let (first, second) = thread::join(
@@ -48,8 +49,13 @@ fn two_threads_take_each_job_once(rt: HostRuntime) -> Result<(), Fail> {
             requires { other.pool ≡ pool.now }
         { drain(rt, rt.alloc(), pool, &mut other) },
     );
-    let mut numbers = memory(first)?;
-    for number in memory(second)? {
+    let Ok(mut numbers) = first else {
+        return Err(Fail::from("memory"));
+    };
+    let Ok(others) = second else {
+        return Err(Fail::from("memory"));
+    };
+    for number in others {
         numbers.push(number)?;
     }
     numbers.sort()?;
