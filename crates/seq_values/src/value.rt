@@ -6,7 +6,7 @@ use seq_vector::{NoMemory, PVec, Share, Shared};
 /// One shared value.
 pub type Held = Shared<Value>;
 
-/// A value of a script.
+/// A value of a script. What holds values keeps beside them how deep it is itself.
 #[cycle(values)]
 #[derive(Drop)]
 pub enum Value {
@@ -16,29 +16,45 @@ pub enum Value {
     /// A keyword, by its name without the colon.
     Keyword(Text),
     Text(Text),
-    Vector(PVec<Value>),
+    Vector { items: PVec<Value>, depth: u32 },
     Function(FnValue),
     Node(Node),
     /// A value that ends a reduction.
-    Reduced(Held),
+    Reduced { value: Held, depth: u32 },
     /// A part, by its number: a lazy cell or a future.
     Cell(CellId),
 }
 
-/// A sequence whose first element is there.
+/// A sequence whose first element is there. What holds values keeps its own depth.
 #[cycle(values)]
 #[derive(Drop)]
 pub enum Node {
     /// The empty list `()`.
     Empty,
     /// Leading elements, the first element last, before a rest.
-    Cons { heads: PVec<Value>, rest: Held },
+    Cons {
+        heads: PVec<Value>,
+        rest: Held,
+        depth: u32,
+    },
     /// A chunk of elements, the first element first, before a rest.
-    Chunk { items: PVec<Value>, rest: Held },
+    Chunk {
+        items: PVec<Value>,
+        rest: Held,
+        depth: u32,
+    },
     /// The integers from `at` up to `end`, which it leaves out. The range began at `from`.
-    Range { from: i64, at: i64, end: i64 },
+    Range {
+        from: i64,
+        at: i64,
+        end: i64,
+    },
     /// The items of a vector from place `at` on.
-    VecSeq { items: PVec<Value>, at: u32 },
+    VecSeq {
+        items: PVec<Value>,
+        at: u32,
+        depth: u32,
+    },
 }
 
 /// A function with the arguments that are bound to it.
@@ -49,6 +65,8 @@ pub struct FnValue {
     pub target: Target,
     /// The bound arguments in order.
     pub bound: PVec<Value>,
+    /// How deep the function is: one more than the deepest that is bound.
+    pub depth: u32,
 }
 
 /// At most two atomic increments, whatever the value holds.
@@ -60,10 +78,16 @@ impl Share for Value {
             Value::Int(number) => Value::Int(*number),
             Value::Keyword(name) => Value::Keyword(name.share()?),
             Value::Text(text) => Value::Text(text.share()?),
-            Value::Vector(items) => Value::Vector(items.share()?),
+            Value::Vector { items, depth } => Value::Vector {
+                items: items.share()?,
+                depth: *depth,
+            },
             Value::Function(function) => Value::Function(function.share()?),
             Value::Node(node) => Value::Node(node.share()?),
-            Value::Reduced(held) => Value::Reduced(held.share()?),
+            Value::Reduced { value, depth } => Value::Reduced {
+                value: value.share()?,
+                depth: *depth,
+            },
             Value::Cell(id) => Value::Cell(*id),
         })
     }
@@ -74,22 +98,25 @@ impl Share for Node {
     fn share(&self) -> Result<Node, NoMemory> {
         Ok(match self {
             Node::Empty => Node::Empty,
-            Node::Cons { heads, rest } => Node::Cons {
+            Node::Cons { heads, rest, depth } => Node::Cons {
                 heads: heads.share()?,
                 rest: rest.share()?,
+                depth: *depth,
             },
-            Node::Chunk { items, rest } => Node::Chunk {
+            Node::Chunk { items, rest, depth } => Node::Chunk {
                 items: items.share()?,
                 rest: rest.share()?,
+                depth: *depth,
             },
             Node::Range { from, at, end } => Node::Range {
                 from: *from,
                 at: *at,
                 end: *end,
             },
-            Node::VecSeq { items, at } => Node::VecSeq {
+            Node::VecSeq { items, at, depth } => Node::VecSeq {
                 items: items.share()?,
                 at: *at,
+                depth: *depth,
             },
         })
     }
@@ -102,6 +129,7 @@ impl Share for FnValue {
         Ok(FnValue {
             target: self.target,
             bound,
+            depth: self.depth,
         })
     }
 }

@@ -1,0 +1,67 @@
+-- A number that is kept is the depth of what keeps it.
+use Rattle.std.proofs.Common.{◌≡◌, refl, sym, ap, ◌∙◌, ℕ, zero, suc, ◌+◌, ◌≤◌, ◌<◌, max, List, [], ◌∷◌, ◌++◌, map, length, take, Bool, true, false, ◌&&◌, nat_eq, Some, None, slice_get, arith}
+use Rattle.std.specs.Prelude.{IsTrue}
+use Rattle.std.proofs.lemmas.Bool.{eqb-true, eq-eqb}
+use Rattle.std.proofs.Math.Seq.{take-nil}
+use Rattle.std.proofs.Math.Nat.{le-max_left, le-max_right}
+use Rattle.seq_values.specs.declared.value.Value.TheVariants as V
+use Rattle.seq_values.specs.declared.value.Node.TheVariants as N
+use Rattle.seq_values.specs.Layers.{Value, Node, FnValue}
+use Rattle.seq_values.specs.Depth.{Grade, deepest, all_right, holding, graded, depth, depth_of_node, depth_of_function, depth_of_all, keeps_depth, node_keeps_depth, function_keeps_depth, keep_depth}
+use Rattle.seq_values.proofs.Rolls.{graded_vector, graded_reduced, graded_as_node, graded_as_function, graded_fn, graded_cons, graded_chunk, graded_vec_seq}
+
+pub and_parts : (a b : Bool) → (a && b) ≡ true → (a ≡ true) × (b ≡ true)
+and_parts true b h = (refl, h)
+and_parts false b h = absurd (cc h)
+
+pub both : (a b : Bool) → a ≡ true → b ≡ true → (a && b) ≡ true
+both true b p q = q
+both false b p q = absurd (cc p)
+
+pub is_kept : (g : Grade) (inside : ℕ) (right : Bool) (kept : ℕ) → g ≡ holding inside right kept → g.right ≡ true → kept ≡ g.depth
+is_kept g inside right kept e h = eqb-true kept (inside + 1) (and_parts right (nat_eq kept (inside + 1)) (sym (ap (λ x. x.right) e) ∙ h)).1 ∙ sym (ap (λ x. x.depth) e)
+
+-- ## One layer
+
+pub vector_depth : (items : List Value) (kept : ℕ) → IsTrue (keeps_depth (V.Vector items kept)) → kept ≡ depth (V.Vector items kept)
+vector_depth items kept h = is_kept _ _ _ kept (graded_vector items kept) h
+
+pub reduced_depth : (held : Value) (kept : ℕ) → IsTrue (keeps_depth (V.Reduced held kept)) → kept ≡ depth (V.Reduced held kept)
+reduced_depth held kept h = is_kept _ _ _ kept (graded_reduced held kept) h
+
+pub node_keeps : (n : Node) → IsTrue (keeps_depth (V.Node n)) → IsTrue (node_keeps_depth n)
+node_keeps n h = sym (ap (λ g. g.right) (graded_as_node n)) ∙ h
+
+pub node_as_value : (n : Node) → depth_of_node n ≡ depth (V.Node n)
+node_as_value n = sym (ap (λ g. g.depth) (graded_as_node n))
+
+pub function_depth : (f : FnValue) → IsTrue (keeps_depth (V.Function f)) → f.depth ≡ depth (V.Function f)
+function_depth f h = is_kept _ _ _ f.depth (graded_as_function f ∙ graded_fn f) h
+
+pub cons_depth : (heads : List Value) (rest : Value) (kept : ℕ) → IsTrue (node_keeps_depth (N.Cons heads rest kept)) → kept ≡ depth_of_node (N.Cons heads rest kept)
+cons_depth heads rest kept h = is_kept _ _ _ kept (graded_cons heads rest kept) h
+
+pub chunk_depth : (items : List Value) (rest : Value) (kept : ℕ) → IsTrue (node_keeps_depth (N.Chunk items rest kept)) → kept ≡ depth_of_node (N.Chunk items rest kept)
+chunk_depth items rest kept h = is_kept _ _ _ kept (graded_chunk items rest kept) h
+
+pub vec_seq_depth : (items : List Value) (at kept : ℕ) → IsTrue (node_keeps_depth (N.VecSeq items at kept)) → kept ≡ depth_of_node (N.VecSeq items at kept)
+vec_seq_depth items at kept h = is_kept _ _ _ kept (graded_vec_seq items at kept) h
+
+-- ## Items, one after the other
+
+pub item_keeps : (items : List Value) (at : ℕ) (item : Value) → Some item ≡ slice_get items at → IsTrue (keep_depth items) → IsTrue (keeps_depth item)
+item_keeps [] at item e h = absurd (cc e)
+item_keeps (v ∷ vs) zero item e h = ap keeps_depth (some_is e) ∙ (and_parts (keeps_depth v) (keep_depth vs) h).0 where
+  some_is : {x y : Value} → Some x ≡ Some y → x ≡ y
+  some_is e = cc e
+item_keeps (v ∷ vs) (suc at) item e h = item_keeps vs at item e (and_parts (keeps_depth v) (keep_depth vs) h).1
+
+pub one_more_seen : (items : List Value) (at : ℕ) (item : Value) → Some item ≡ slice_get items at → max (depth_of_all (take at items)) (depth item) ≡ depth_of_all (take (at + 1) items)
+one_more_seen [] at item e = absurd (cc e)
+one_more_seen (v ∷ vs) zero item e = omega (arith, ap (λ o. o) (ap depth (cc e)))
+one_more_seen (v ∷ vs) (suc at) item e = omega (arith, one_more_seen vs at item e)
+
+pub seen_within : (items : List Value) (at : ℕ) → depth_of_all (take at items) ≤ depth_of_all items
+seen_within [] at = omega (arith, ap depth_of_all (take-nil {A = Value} at))
+seen_within (v ∷ vs) zero = omega arith
+seen_within (v ∷ vs) (suc at) = omega (arith, seen_within vs at)
