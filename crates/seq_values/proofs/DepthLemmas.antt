@@ -1,8 +1,8 @@
 -- A number that is kept is the depth of what keeps it.
-use Rattle.std.proofs.Common.{◌≡◌, refl, sym, ap, ◌∙◌, ℕ, zero, suc, ◌+◌, ◌≤◌, ◌<◌, max, List, [], ◌∷◌, ◌++◌, map, length, take, Bool, true, false, ◌&&◌, nat_eq, Some, None, slice_get, arith}
+use Rattle.std.proofs.Common.{◌≡◌, refl, sym, ap, ◌∙◌, ℕ, zero, suc, ◌+◌, ◌-◌, ◌≤◌, ◌<◌, max, List, [], ◌∷◌, ◌++◌, map, length, take, drop, Bool, true, false, ◌&&◌, nat_eq, Some, None, slice_get, arith}
 use Rattle.std.specs.Prelude.{IsTrue}
 use Rattle.std.proofs.lemmas.Bool.{eqb-true, eq-eqb}
-use Rattle.std.proofs.Math.Seq.{take-nil}
+use Rattle.std.proofs.Math.Seq.{take-nil, drop-nil}
 use Rattle.std.proofs.Math.Nat.{le-max_left, le-max_right}
 use Rattle.seq_values.specs.declared.value.Value.TheVariants as V
 use Rattle.seq_values.specs.declared.value.Node.TheVariants as N
@@ -23,10 +23,10 @@ is_kept g inside right kept e h = eqb-true kept (inside + 1) (and_parts right (n
 
 -- ## One layer
 
-pub vector_depth : (items : List Value) (kept : ℕ) → IsTrue (keeps_depth (V.Vector items kept)) → kept ≡ depth (V.Vector items kept)
+pub vector_depth : (items : List Value) (kept : ℕ) → IsTrue (keeps_depth (V.Vector kept items)) → kept ≡ depth (V.Vector kept items)
 vector_depth items kept h = is_kept _ _ _ kept (graded_vector items kept) h
 
-pub reduced_depth : (held : Value) (kept : ℕ) → IsTrue (keeps_depth (V.Reduced held kept)) → kept ≡ depth (V.Reduced held kept)
+pub reduced_depth : (held : Value) (kept : ℕ) → IsTrue (keeps_depth (V.Reduced kept held)) → kept ≡ depth (V.Reduced kept held)
 reduced_depth held kept h = is_kept _ _ _ kept (graded_reduced held kept) h
 
 pub node_keeps : (n : Node) → IsTrue (keeps_depth (V.Node n)) → IsTrue (node_keeps_depth n)
@@ -38,30 +38,49 @@ node_as_value n = sym (ap (λ g. g.depth) (graded_as_node n))
 pub function_depth : (f : FnValue) → IsTrue (keeps_depth (V.Function f)) → f.depth ≡ depth (V.Function f)
 function_depth f h = is_kept _ _ _ f.depth (graded_as_function f ∙ graded_fn f) h
 
-pub cons_depth : (heads : List Value) (rest : Value) (kept : ℕ) → IsTrue (node_keeps_depth (N.Cons heads rest kept)) → kept ≡ depth_of_node (N.Cons heads rest kept)
+pub cons_depth : (heads : List Value) (rest : Value) (kept : ℕ) → IsTrue (node_keeps_depth (N.Cons kept heads rest)) → kept ≡ depth_of_node (N.Cons kept heads rest)
 cons_depth heads rest kept h = is_kept _ _ _ kept (graded_cons heads rest kept) h
 
-pub chunk_depth : (items : List Value) (rest : Value) (kept : ℕ) → IsTrue (node_keeps_depth (N.Chunk items rest kept)) → kept ≡ depth_of_node (N.Chunk items rest kept)
+pub chunk_depth : (items : List Value) (rest : Value) (kept : ℕ) → IsTrue (node_keeps_depth (N.Chunk kept items rest)) → kept ≡ depth_of_node (N.Chunk kept items rest)
 chunk_depth items rest kept h = is_kept _ _ _ kept (graded_chunk items rest kept) h
 
-pub vec_seq_depth : (items : List Value) (at kept : ℕ) → IsTrue (node_keeps_depth (N.VecSeq items at kept)) → kept ≡ depth_of_node (N.VecSeq items at kept)
+pub vec_seq_depth : (items : List Value) (at kept : ℕ) → IsTrue (node_keeps_depth (N.VecSeq kept items at)) → kept ≡ depth_of_node (N.VecSeq kept items at)
 vec_seq_depth items at kept h = is_kept _ _ _ kept (graded_vec_seq items at kept) h
 
 -- ## Items, one after the other
 
+some_is : (x y : Value) → Some x ≡ Some y → x ≡ y
+some_is x y e = cc e
+
 pub item_keeps : (items : List Value) (at : ℕ) (item : Value) → Some item ≡ slice_get items at → IsTrue (keep_depth items) → IsTrue (keeps_depth item)
 item_keeps [] at item e h = absurd (cc e)
-item_keeps (v ∷ vs) zero item e h = ap keeps_depth (some_is e) ∙ (and_parts (keeps_depth v) (keep_depth vs) h).0 where
-  some_is : {x y : Value} → Some x ≡ Some y → x ≡ y
-  some_is e = cc e
+item_keeps (v ∷ vs) zero item e h = ap keeps_depth (some_is item v e) ∙ (and_parts (keeps_depth v) (keep_depth vs) h).0
 item_keeps (v ∷ vs) (suc at) item e h = item_keeps vs at item e (and_parts (keeps_depth v) (keep_depth vs) h).1
 
 pub one_more_seen : (items : List Value) (at : ℕ) (item : Value) → Some item ≡ slice_get items at → max (depth_of_all (take at items)) (depth item) ≡ depth_of_all (take (at + 1) items)
 one_more_seen [] at item e = absurd (cc e)
-one_more_seen (v ∷ vs) zero item e = omega (arith, ap (λ o. o) (ap depth (cc e)))
+one_more_seen (v ∷ vs) zero item e = omega (arith, ap depth (some_is item v e))
 one_more_seen (v ∷ vs) (suc at) item e = omega (arith, one_more_seen vs at item e)
 
 pub seen_within : (items : List Value) (at : ℕ) → depth_of_all (take at items) ≤ depth_of_all items
 seen_within [] at = omega (arith, ap depth_of_all (take-nil {A = Value} at))
 seen_within (v ∷ vs) zero = omega arith
 seen_within (v ∷ vs) (suc at) = omega (arith, seen_within vs at)
+
+-- from the last on
+pub one_more_behind : (items : List Value) (at : ℕ) (item : Value) → Some item ≡ slice_get items at → max (depth_of_all (drop (at + 1) items)) (depth item) ≡ depth_of_all (drop at items)
+one_more_behind [] at item e = absurd (cc e)
+one_more_behind (v ∷ vs) zero item e = omega (arith, ap depth (some_is item v e))
+one_more_behind (v ∷ vs) (suc at) item e = one_more_behind vs at item e
+
+pub behind_within : (items : List Value) (at : ℕ) → depth_of_all (drop at items) ≤ depth_of_all items
+behind_within [] at = omega (arith, ap depth_of_all (drop-nil {A = Value} at))
+behind_within (v ∷ vs) zero = omega arith
+behind_within (v ∷ vs) (suc at) = omega (arith, behind_within vs at)
+
+pub last_more : (items : List Value) (count done found : ℕ) (item : Value) → count ≡ length items → done < count → Some item ≡ slice_get items (count - 1 - done)
+    → found ≡ depth_of_all (drop (length items - done) items) → max found (depth item) ≡ depth_of_all (drop (length items - (done + 1)) items)
+last_more items count done found item c lt e f =
+    let before : length items - done ≡ count - 1 - done + 1 = omega (arith, c, lt) in
+    let after : length items - (done + 1) ≡ count - 1 - done = omega (arith, c, lt) in
+    ap (λ n. max n (depth item)) (f ∙ ap (λ k. depth_of_all (drop k items)) before) ∙ one_more_behind items (count - 1 - done) item e ∙ sym (ap (λ k. depth_of_all (drop k items)) after)

@@ -6,17 +6,17 @@ use Rattle.seq_values.specs.Layers.{fold-roll-Value, fold-roll-Node, fold_out-Fn
 use Rattle.seq_values.specs.Depth.{Grade, holding, node_grade, value_grade, function_grade, graded, graded_node, graded_function, depth, keeps_depth, depth_of_all, keep_depth}
 use Rattle.seq_values.specs.WellFormed.{Seen, node_seen, value_seen, function_seen, seen, seen_node, seen_function}
 
-pub seen_vector : (items : List Value) (kept : ℕ) → seen (V.Vector items kept) ≡ value_seen (Value-F.Vector (map seen items) kept)
-seen_vector items kept = ap seen (sym (V.rolls-Vector items kept)) ∙ fold-roll-Value Seen Seen Seen node_seen value_seen function_seen (Value-F.Vector items kept)
+pub seen_vector : (items : List Value) (kept : ℕ) → seen (V.Vector kept items) ≡ value_seen (Value-F.Vector kept (map seen items))
+seen_vector items kept = ap seen (sym (V.rolls-Vector kept items)) ∙ fold-roll-Value Seen Seen Seen node_seen value_seen function_seen (Value-F.Vector kept items)
 
-pub graded_vector : (items : List Value) (kept : ℕ) → graded (V.Vector items kept) ≡ holding (depth_of_all items) (keep_depth items) kept
-graded_vector items kept = ap graded (sym (V.rolls-Vector items kept)) ∙ fold-roll-Value Grade Grade Grade node_grade value_grade function_grade (Value-F.Vector items kept)
+pub graded_vector : (items : List Value) (kept : ℕ) → graded (V.Vector kept items) ≡ holding (depth_of_all items) (keep_depth items) kept
+graded_vector items kept = ap graded (sym (V.rolls-Vector kept items)) ∙ fold-roll-Value Grade Grade Grade node_grade value_grade function_grade (Value-F.Vector kept items)
 
-pub seen_reduced : (held : Value) (kept : ℕ) → seen (V.Reduced held kept) ≡ value_seen (Value-F.Reduced (seen held) kept)
-seen_reduced held kept = ap seen (sym (V.rolls-Reduced held kept)) ∙ fold-roll-Value Seen Seen Seen node_seen value_seen function_seen (Value-F.Reduced held kept)
+pub seen_reduced : (held : Value) (kept : ℕ) → seen (V.Reduced kept held) ≡ value_seen (Value-F.Reduced kept (seen held))
+seen_reduced held kept = ap seen (sym (V.rolls-Reduced kept held)) ∙ fold-roll-Value Seen Seen Seen node_seen value_seen function_seen (Value-F.Reduced kept held)
 
-pub graded_reduced : (held : Value) (kept : ℕ) → graded (V.Reduced held kept) ≡ holding (depth held) (keeps_depth held) kept
-graded_reduced held kept = ap graded (sym (V.rolls-Reduced held kept)) ∙ fold-roll-Value Grade Grade Grade node_grade value_grade function_grade (Value-F.Reduced held kept)
+pub graded_reduced : (held : Value) (kept : ℕ) → graded (V.Reduced kept held) ≡ holding (depth held) (keeps_depth held) kept
+graded_reduced held kept = ap graded (sym (V.rolls-Reduced kept held)) ∙ fold-roll-Value Grade Grade Grade node_grade value_grade function_grade (Value-F.Reduced kept held)
 
 pub seen_as_node : (n : Node) → seen (V.Node n) ≡ seen_node n
 seen_as_node n = ap seen (sym (V.rolls-Node n)) ∙ fold-roll-Value Seen Seen Seen node_seen value_seen function_seen (Value-F.Node n)
@@ -30,26 +30,26 @@ seen_as_function f = ap seen (sym (V.rolls-Function f)) ∙ fold-roll-Value Seen
 pub graded_as_function : (f : FnValue) → graded (V.Function f) ≡ graded_function f
 graded_as_function f = ap graded (sym (V.rolls-Function f)) ∙ fold-roll-Value Grade Grade Grade node_grade value_grade function_grade (Value-F.Function f)
 
-pub seen_fn : (f : FnValue) → seen_function f ≡ function_seen (record { target = f.target; bound = map seen f.bound; depth = f.depth })
+pub seen_fn : (f : FnValue) → seen_function f ≡ function_seen (record { target = f.target; depth = f.depth; bound = map seen f.bound })
 seen_fn f = fold_out-FnValue Seen Seen Seen node_seen value_seen function_seen f
 
 pub graded_fn : (f : FnValue) → graded_function f ≡ holding (depth_of_all f.bound) (keep_depth f.bound) f.depth
 graded_fn f = fold_out-FnValue Grade Grade Grade node_grade value_grade function_grade f
 
-pub seen_cons : (heads : List Value) (rest : Value) (kept : ℕ) → seen_node (N.Cons heads rest kept) ≡ node_seen (Node-F.Cons (map seen heads) (seen rest) kept)
-seen_cons heads rest kept = ap seen_node (sym (N.rolls-Cons heads rest kept)) ∙ fold-roll-Node Seen Seen Seen node_seen value_seen function_seen (Node-F.Cons heads rest kept)
+pub seen_cons : (heads : List Value) (rest : Value) (kept : ℕ) → seen_node (N.Cons kept heads rest) ≡ node_seen (Node-F.Cons kept (map seen heads) (seen rest))
+seen_cons heads rest kept = ap seen_node (sym (N.rolls-Cons kept heads rest)) ∙ fold-roll-Node Seen Seen Seen node_seen value_seen function_seen (Node-F.Cons kept heads rest)
 
-pub graded_cons : (heads : List Value) (rest : Value) (kept : ℕ) → graded_node (N.Cons heads rest kept) ≡ holding (max (depth_of_all heads) (depth rest)) (keep_depth heads && keeps_depth rest) kept
-graded_cons heads rest kept = ap graded_node (sym (N.rolls-Cons heads rest kept)) ∙ fold-roll-Node Grade Grade Grade node_grade value_grade function_grade (Node-F.Cons heads rest kept)
+pub graded_cons : (heads : List Value) (rest : Value) (kept : ℕ) → graded_node (N.Cons kept heads rest) ≡ holding (max (depth_of_all heads) (depth rest)) (keep_depth heads && keeps_depth rest) kept
+graded_cons heads rest kept = ap graded_node (sym (N.rolls-Cons kept heads rest)) ∙ fold-roll-Node Grade Grade Grade node_grade value_grade function_grade (Node-F.Cons kept heads rest)
 
-pub seen_chunk : (items : List Value) (rest : Value) (kept : ℕ) → seen_node (N.Chunk items rest kept) ≡ node_seen (Node-F.Chunk (map seen items) (seen rest) kept)
-seen_chunk items rest kept = ap seen_node (sym (N.rolls-Chunk items rest kept)) ∙ fold-roll-Node Seen Seen Seen node_seen value_seen function_seen (Node-F.Chunk items rest kept)
+pub seen_chunk : (items : List Value) (rest : Value) (kept : ℕ) → seen_node (N.Chunk kept items rest) ≡ node_seen (Node-F.Chunk kept (map seen items) (seen rest))
+seen_chunk items rest kept = ap seen_node (sym (N.rolls-Chunk kept items rest)) ∙ fold-roll-Node Seen Seen Seen node_seen value_seen function_seen (Node-F.Chunk kept items rest)
 
-pub graded_chunk : (items : List Value) (rest : Value) (kept : ℕ) → graded_node (N.Chunk items rest kept) ≡ holding (max (depth_of_all items) (depth rest)) (keep_depth items && keeps_depth rest) kept
-graded_chunk items rest kept = ap graded_node (sym (N.rolls-Chunk items rest kept)) ∙ fold-roll-Node Grade Grade Grade node_grade value_grade function_grade (Node-F.Chunk items rest kept)
+pub graded_chunk : (items : List Value) (rest : Value) (kept : ℕ) → graded_node (N.Chunk kept items rest) ≡ holding (max (depth_of_all items) (depth rest)) (keep_depth items && keeps_depth rest) kept
+graded_chunk items rest kept = ap graded_node (sym (N.rolls-Chunk kept items rest)) ∙ fold-roll-Node Grade Grade Grade node_grade value_grade function_grade (Node-F.Chunk kept items rest)
 
-pub seen_vec_seq : (items : List Value) (at kept : ℕ) → seen_node (N.VecSeq items at kept) ≡ node_seen (Node-F.VecSeq (map seen items) at kept)
-seen_vec_seq items at kept = ap seen_node (sym (N.rolls-VecSeq items at kept)) ∙ fold-roll-Node Seen Seen Seen node_seen value_seen function_seen (Node-F.VecSeq items at kept)
+pub seen_vec_seq : (items : List Value) (at kept : ℕ) → seen_node (N.VecSeq kept items at) ≡ node_seen (Node-F.VecSeq kept (map seen items) at)
+seen_vec_seq items at kept = ap seen_node (sym (N.rolls-VecSeq kept items at)) ∙ fold-roll-Node Seen Seen Seen node_seen value_seen function_seen (Node-F.VecSeq kept items at)
 
-pub graded_vec_seq : (items : List Value) (at kept : ℕ) → graded_node (N.VecSeq items at kept) ≡ holding (depth_of_all items) (keep_depth items) kept
-graded_vec_seq items at kept = ap graded_node (sym (N.rolls-VecSeq items at kept)) ∙ fold-roll-Node Grade Grade Grade node_grade value_grade function_grade (Node-F.VecSeq items at kept)
+pub graded_vec_seq : (items : List Value) (at kept : ℕ) → graded_node (N.VecSeq kept items at) ≡ holding (depth_of_all items) (keep_depth items) kept
+graded_vec_seq items at kept = ap graded_node (sym (N.rolls-VecSeq kept items at)) ∙ fold-roll-Node Grade Grade Grade node_grade value_grade function_grade (Node-F.VecSeq kept items at)

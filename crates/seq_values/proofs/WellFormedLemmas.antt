@@ -122,18 +122,18 @@ module _ (s t : Seen) (g : Grade) (inside : ℕ) (right : Bool) (kept : ℕ) (is
 
 -- ## Vectors, reduced values, and nodes and functions as values
 
-pub vector_well : (items : List Value) (kept : ℕ) → IsTrue (are_well_formed items) → depth_of_all items ≤ 255 → kept ≡ depth_of_all items + 1 → IsTrue (is_well_formed (V.Vector items kept))
+pub vector_well : (items : List Value) (kept : ℕ) → IsTrue (are_well_formed items) → depth_of_all items ≤ 255 → kept ≡ depth_of_all items + 1 → IsTrue (is_well_formed (V.Vector kept items))
 vector_well items kept h le k = made _ _ _ _ _ _ (seen_vector items kept) (graded_vector items kept) (all_stands items h) (list_keeps items h) k le
 
-pub vector_items : (items : List Value) (kept : ℕ) → IsTrue (is_well_formed (V.Vector items kept)) → IsTrue (are_well_formed items)
+pub vector_items : (items : List Value) (kept : ℕ) → IsTrue (is_well_formed (V.Vector kept items)) → IsTrue (are_well_formed items)
 vector_items items kept h =
     let parts = taken _ _ _ _ _ _ (seen_vector items kept) (graded_vector items kept) h in
     all_well_formed items parts.0 parts.1 (omega (arith, parts.2))
 
-pub reduced_well : (held : Value) (kept : ℕ) → IsTrue (is_well_formed held) → depth held ≤ 255 → kept ≡ depth held + 1 → IsTrue (is_well_formed (V.Reduced held kept))
+pub reduced_well : (held : Value) (kept : ℕ) → IsTrue (is_well_formed held) → depth held ≤ 255 → kept ≡ depth held + 1 → IsTrue (is_well_formed (V.Reduced kept held))
 reduced_well held kept h le k = made _ _ _ _ _ _ (seen_reduced held kept) (graded_reduced held kept) (stands_in (seen held) (graded held) h) (value_keeps held h) k le
 
-pub reduced_held : (held : Value) (kept : ℕ) → IsTrue (is_well_formed (V.Reduced held kept)) → IsTrue (is_well_formed held)
+pub reduced_held : (held : Value) (kept : ℕ) → IsTrue (is_well_formed (V.Reduced kept held)) → IsTrue (is_well_formed held)
 reduced_held held kept h =
     let parts = taken _ _ _ _ _ _ (seen_reduced held kept) (graded_reduced held kept) h in
     formed (seen held) (graded held) parts.0 parts.1 (omega (arith, parts.2))
@@ -193,34 +193,34 @@ module _ (ends : Bool) (values : List Value) (rest : Value) where
       let some : 0 < length values = ltb-true 0 _ (sym (ap (nat_lt 0) (length_seen values)) ∙ outer.0) in
       (record { some = some; each = all_well_formed values inner.0 kept.0 values_within; last = formed (seen rest) (graded rest) last.0 kept.1 rest_within }, last.1)
 
-pub cons_made : (heads : List Value) (rest : Value) (kept : ℕ) → Holds heads rest → IsTrue (ends_cons (sight_of rest)) → max (depth_of_all heads) (depth rest) ≤ 255 → kept ≡ max (depth_of_all heads) (depth rest) + 1 → IsTrue (is_well_formed_node (N.Cons heads rest kept))
+pub cons_made : (heads : List Value) (rest : Value) (kept : ℕ) → Holds heads rest → IsTrue (ends_cons (sight_of rest)) → max (depth_of_all heads) (depth rest) ≤ 255 → kept ≡ max (depth_of_all heads) (depth rest) + 1 → IsTrue (is_well_formed_node (N.Cons kept heads rest))
 cons_made heads rest kept h e le k = made _ _ _ _ _ _ (seen_cons heads rest kept) (graded_cons heads rest kept) (stand _ heads rest h e) (kept_right true heads rest h) k le
 
 pub cons_well : (heads : List Value) (rest : Value) (kept : ℕ) → 0 < length heads → IsTrue (are_well_formed heads) → IsTrue (is_well_formed rest) → IsTrue (ends_cons (sight_of rest)) → depth_of_all heads ≤ 255 → depth rest ≤ 255
-    → kept ≡ max (depth_of_all heads) (depth rest) + 1 → IsTrue (is_well_formed_node (N.Cons heads rest kept))
+    → kept ≡ max (depth_of_all heads) (depth rest) + 1 → IsTrue (is_well_formed_node (N.Cons kept heads rest))
 cons_well heads rest kept n h r e d le k = cons_made heads rest kept (record { some = n; each = h; last = r }) e (max-le d le) k
 
-pub cons_holds : (heads : List Value) (rest : Value) (kept : ℕ) → IsTrue (is_well_formed_node (N.Cons heads rest kept)) → Holds heads rest × IsTrue (ends_cons (sight_of rest))
+pub cons_holds : (heads : List Value) (rest : Value) (kept : ℕ) → IsTrue (is_well_formed_node (N.Cons kept heads rest)) → Holds heads rest × IsTrue (ends_cons (sight_of rest))
 cons_holds heads rest kept h =
     let parts = taken _ _ _ _ _ _ (seen_cons heads rest kept) (graded_cons heads rest kept) h in
     held _ heads rest parts.0 parts.1 parts.2
 
-pub chunk_made : (items : List Value) (rest : Value) (kept : ℕ) → Holds items rest → IsTrue (ends_chunk (sight_of rest)) → max (depth_of_all items) (depth rest) ≤ 255 → kept ≡ max (depth_of_all items) (depth rest) + 1 → IsTrue (is_well_formed_node (N.Chunk items rest kept))
+pub chunk_made : (items : List Value) (rest : Value) (kept : ℕ) → Holds items rest → IsTrue (ends_chunk (sight_of rest)) → max (depth_of_all items) (depth rest) ≤ 255 → kept ≡ max (depth_of_all items) (depth rest) + 1 → IsTrue (is_well_formed_node (N.Chunk kept items rest))
 chunk_made items rest kept h e le k = made _ _ _ _ _ _ (seen_chunk items rest kept) (graded_chunk items rest kept) (stand _ items rest h e) (kept_right true items rest h) k le
 
 pub chunk_well : (items : List Value) (rest : Value) (kept : ℕ) → 0 < length items → IsTrue (are_well_formed items) → IsTrue (is_well_formed rest) → IsTrue (ends_chunk (sight_of rest)) → depth_of_all items ≤ 255 → depth rest ≤ 255
-    → kept ≡ max (depth_of_all items) (depth rest) + 1 → IsTrue (is_well_formed_node (N.Chunk items rest kept))
+    → kept ≡ max (depth_of_all items) (depth rest) + 1 → IsTrue (is_well_formed_node (N.Chunk kept items rest))
 chunk_well items rest kept n h r e d le k = chunk_made items rest kept (record { some = n; each = h; last = r }) e (max-le d le) k
 
-pub chunk_holds : (items : List Value) (rest : Value) (kept : ℕ) → IsTrue (is_well_formed_node (N.Chunk items rest kept)) → Holds items rest × IsTrue (ends_chunk (sight_of rest))
+pub chunk_holds : (items : List Value) (rest : Value) (kept : ℕ) → IsTrue (is_well_formed_node (N.Chunk kept items rest)) → Holds items rest × IsTrue (ends_chunk (sight_of rest))
 chunk_holds items rest kept h =
     let parts = taken _ _ _ _ _ _ (seen_chunk items rest kept) (graded_chunk items rest kept) h in
     held _ items rest parts.0 parts.1 parts.2
 
-pub vec_seq_well : (items : List Value) (at kept : ℕ) → at < length items → IsTrue (are_well_formed items) → depth_of_all items ≤ 255 → kept ≡ depth_of_all items + 1 → IsTrue (is_well_formed_node (N.VecSeq items at kept))
+pub vec_seq_well : (items : List Value) (at kept : ℕ) → at < length items → IsTrue (are_well_formed items) → depth_of_all items ≤ 255 → kept ≡ depth_of_all items + 1 → IsTrue (is_well_formed_node (N.VecSeq kept items at))
 vec_seq_well items at kept lt h le k = made _ _ _ _ _ _ (seen_vec_seq items at kept) (graded_vec_seq items at kept) (both _ _ (ap (nat_lt at) (length_seen items) ∙ lt-ltb at _ lt) (all_stands items h)) (list_keeps items h) k le
 
-pub vec_seq_holds : (items : List Value) (at kept : ℕ) → IsTrue (is_well_formed_node (N.VecSeq items at kept)) → (at < length items) × IsTrue (are_well_formed items)
+pub vec_seq_holds : (items : List Value) (at kept : ℕ) → IsTrue (is_well_formed_node (N.VecSeq kept items at)) → (at < length items) × IsTrue (are_well_formed items)
 vec_seq_holds items at kept h =
     let parts = taken _ _ _ _ _ _ (seen_vec_seq items at kept) (graded_vec_seq items at kept) h in
     let stands = and_parts _ _ parts.0 in
@@ -234,21 +234,21 @@ module _ (s : Seen) (g : Grade) (inside : ℕ) (right : Bool) (kept : ℕ) (is_g
     omega (arith, ap (λ x. x.depth) is_graded, within_in s g h),
   )
 
-pub vector_kept : (items : List Value) (kept : ℕ) → IsTrue (is_well_formed (V.Vector items kept)) → (kept ≡ depth_of_all items + 1) × (depth_of_all items ≤ 255)
-vector_kept items kept h = kept_in (seen (V.Vector items kept)) _ _ _ kept (graded_vector items kept) h
+pub vector_kept : (items : List Value) (kept : ℕ) → IsTrue (is_well_formed (V.Vector kept items)) → (kept ≡ depth_of_all items + 1) × (depth_of_all items ≤ 255)
+vector_kept items kept h = kept_in (seen (V.Vector kept items)) _ _ _ kept (graded_vector items kept) h
 
-pub cons_kept : (heads : List Value) (rest : Value) (kept : ℕ) → IsTrue (is_well_formed_node (N.Cons heads rest kept)) → (kept ≡ max (depth_of_all heads) (depth rest) + 1) × (max (depth_of_all heads) (depth rest) ≤ 255)
-cons_kept heads rest kept h = kept_in (seen_node (N.Cons heads rest kept)) _ _ _ kept (graded_cons heads rest kept) h
+pub cons_kept : (heads : List Value) (rest : Value) (kept : ℕ) → IsTrue (is_well_formed_node (N.Cons kept heads rest)) → (kept ≡ max (depth_of_all heads) (depth rest) + 1) × (max (depth_of_all heads) (depth rest) ≤ 255)
+cons_kept heads rest kept h = kept_in (seen_node (N.Cons kept heads rest)) _ _ _ kept (graded_cons heads rest kept) h
 
-pub chunk_kept : (items : List Value) (rest : Value) (kept : ℕ) → IsTrue (is_well_formed_node (N.Chunk items rest kept)) → (kept ≡ max (depth_of_all items) (depth rest) + 1) × (max (depth_of_all items) (depth rest) ≤ 255)
-chunk_kept items rest kept h = kept_in (seen_node (N.Chunk items rest kept)) _ _ _ kept (graded_chunk items rest kept) h
+pub chunk_kept : (items : List Value) (rest : Value) (kept : ℕ) → IsTrue (is_well_formed_node (N.Chunk kept items rest)) → (kept ≡ max (depth_of_all items) (depth rest) + 1) × (max (depth_of_all items) (depth rest) ≤ 255)
+chunk_kept items rest kept h = kept_in (seen_node (N.Chunk kept items rest)) _ _ _ kept (graded_chunk items rest kept) h
 
-pub vec_seq_kept : (items : List Value) (at kept : ℕ) → IsTrue (is_well_formed_node (N.VecSeq items at kept)) → (kept ≡ depth_of_all items + 1) × (depth_of_all items ≤ 255)
-vec_seq_kept items at kept h = kept_in (seen_node (N.VecSeq items at kept)) _ _ _ kept (graded_vec_seq items at kept) h
+pub vec_seq_kept : (items : List Value) (at kept : ℕ) → IsTrue (is_well_formed_node (N.VecSeq kept items at)) → (kept ≡ depth_of_all items + 1) × (depth_of_all items ≤ 255)
+vec_seq_kept items at kept h = kept_in (seen_node (N.VecSeq kept items at)) _ _ _ kept (graded_vec_seq items at kept) h
 
 -- ## A sequence over a vector
 
-pub vector_seq_well : (items : List Value) (kept : ℕ) → IsTrue (is_well_formed (V.Vector items kept)) → 0 < length items → IsTrue (is_well_formed_node (N.VecSeq items 0 kept))
+pub vector_seq_well : (items : List Value) (kept : ℕ) → IsTrue (is_well_formed (V.Vector kept items)) → 0 < length items → IsTrue (is_well_formed_node (N.VecSeq kept items 0))
 vector_seq_well items kept h some = vec_seq_well items 0 kept some (vector_items items kept h) (vector_kept items kept h).1 (vector_kept items kept h).0
 
 -- ## One value in a list
@@ -272,10 +272,10 @@ term_well t h k = both _ _ h k
 
 -- ## What is matched out of a well-formed value, as a `match` of the code leaves it
 
-pub vector_in : (v : Value) (items : List Value) (kept : ℕ) → v ≡ V.Vector items kept → is_well_formed v ≡ true → are_well_formed items ≡ true
+pub vector_in : (v : Value) (items : List Value) (kept : ℕ) → v ≡ V.Vector kept items → is_well_formed v ≡ true → are_well_formed items ≡ true
 vector_in v items kept e h = vector_items items kept (sym (ap is_well_formed e) ∙ h)
 
-pub reduced_in : (v held : Value) (kept : ℕ) → v ≡ V.Reduced held kept → is_well_formed v ≡ true → is_well_formed held ≡ true
+pub reduced_in : (v held : Value) (kept : ℕ) → v ≡ V.Reduced kept held → is_well_formed v ≡ true → is_well_formed held ≡ true
 reduced_in v held kept e h = reduced_held held kept (sym (ap is_well_formed e) ∙ h)
 
 pub node_in : (v : Value) (n : Node) → v ≡ V.Node n → is_well_formed v ≡ true → is_well_formed_node n ≡ true
@@ -284,17 +284,17 @@ node_in v n e h = sym (as_node n) ∙ sym (ap is_well_formed e) ∙ h
 pub function_in : (v : Value) (f : FnValue) → v ≡ V.Function f → is_well_formed v ≡ true → is_well_formed_function f ≡ true
 function_in v f e h = sym (as_function f) ∙ sym (ap is_well_formed e) ∙ h
 
-pub cons_heads : (n : Node) (heads : List Value) (rest : Value) (kept : ℕ) → n ≡ N.Cons heads rest kept → is_well_formed_node n ≡ true → are_well_formed heads ≡ true
+pub cons_heads : (n : Node) (heads : List Value) (rest : Value) (kept : ℕ) → n ≡ N.Cons kept heads rest → is_well_formed_node n ≡ true → are_well_formed heads ≡ true
 cons_heads n heads rest kept e h = (cons_holds heads rest kept (sym (ap is_well_formed_node e) ∙ h)).0.each
 
-pub cons_rest : (n : Node) (heads : List Value) (rest : Value) (kept : ℕ) → n ≡ N.Cons heads rest kept → is_well_formed_node n ≡ true → is_well_formed rest ≡ true
+pub cons_rest : (n : Node) (heads : List Value) (rest : Value) (kept : ℕ) → n ≡ N.Cons kept heads rest → is_well_formed_node n ≡ true → is_well_formed rest ≡ true
 cons_rest n heads rest kept e h = (cons_holds heads rest kept (sym (ap is_well_formed_node e) ∙ h)).0.last
 
-pub chunk_items : (n : Node) (items : List Value) (rest : Value) (kept : ℕ) → n ≡ N.Chunk items rest kept → is_well_formed_node n ≡ true → are_well_formed items ≡ true
+pub chunk_items : (n : Node) (items : List Value) (rest : Value) (kept : ℕ) → n ≡ N.Chunk kept items rest → is_well_formed_node n ≡ true → are_well_formed items ≡ true
 chunk_items n items rest kept e h = (chunk_holds items rest kept (sym (ap is_well_formed_node e) ∙ h)).0.each
 
-pub chunk_rest : (n : Node) (items : List Value) (rest : Value) (kept : ℕ) → n ≡ N.Chunk items rest kept → is_well_formed_node n ≡ true → is_well_formed rest ≡ true
+pub chunk_rest : (n : Node) (items : List Value) (rest : Value) (kept : ℕ) → n ≡ N.Chunk kept items rest → is_well_formed_node n ≡ true → is_well_formed rest ≡ true
 chunk_rest n items rest kept e h = (chunk_holds items rest kept (sym (ap is_well_formed_node e) ∙ h)).0.last
 
-pub vec_seq_items : (n : Node) (items : List Value) (at kept : ℕ) → n ≡ N.VecSeq items at kept → is_well_formed_node n ≡ true → are_well_formed items ≡ true
+pub vec_seq_items : (n : Node) (items : List Value) (at kept : ℕ) → n ≡ N.VecSeq kept items at → is_well_formed_node n ≡ true → are_well_formed items ≡ true
 vec_seq_items n items at kept e h = (vec_seq_holds items at kept (sym (ap is_well_formed_node e) ∙ h)).1

@@ -26,16 +26,16 @@ holding inside right kept = record { depth = inside + 1; right = right && nat_eq
 
 abbrev pub node_grade : NodeLayer Grade → Grade
 node_grade Node-F.Empty = flat
-node_grade (Node-F.Cons heads rest kept) = holding (max (deepest heads) rest.depth) (all_right heads && rest.right) kept
-node_grade (Node-F.Chunk items rest kept) = holding (max (deepest items) rest.depth) (all_right items && rest.right) kept
+node_grade (Node-F.Cons kept heads rest) = holding (max (deepest heads) rest.depth) (all_right heads && rest.right) kept
+node_grade (Node-F.Chunk kept items rest) = holding (max (deepest items) rest.depth) (all_right items && rest.right) kept
 node_grade (Node-F.Range from at end) = flat
-node_grade (Node-F.VecSeq items at kept) = holding (deepest items) (all_right items) kept
+node_grade (Node-F.VecSeq kept items at) = holding (deepest items) (all_right items) kept
 
 abbrev pub value_grade : ValueLayer Grade → Grade
-value_grade (Value-F.Vector items kept) = holding (deepest items) (all_right items) kept
+value_grade (Value-F.Vector kept items) = holding (deepest items) (all_right items) kept
 value_grade (Value-F.Function function) = function
 value_grade (Value-F.Node node) = node
-value_grade (Value-F.Reduced value kept) = holding value.depth value.right kept
+value_grade (Value-F.Reduced kept value) = holding value.depth value.right kept
 value_grade _ = flat
 
 abbrev pub function_grade : FunctionLayer Grade → Grade

@@ -99,10 +99,10 @@ not_empty seen = nat_lt 0 (length seen)
 
 abbrev pub node_seen : NodeLayer Seen → Seen
 node_seen Node-F.Empty = good an_empty
-node_seen (Node-F.Cons heads rest kept) = record { sight = a_cons; stands = not_empty heads && (all_stand heads && (rest.stands && ends_cons rest.sight)) }
-node_seen (Node-F.Chunk items rest kept) = record { sight = a_chunked; stands = not_empty items && (all_stand items && (rest.stands && ends_chunk rest.sight)) }
+node_seen (Node-F.Cons kept heads rest) = record { sight = a_cons; stands = not_empty heads && (all_stand heads && (rest.stands && ends_cons rest.sight)) }
+node_seen (Node-F.Chunk kept items rest) = record { sight = a_chunked; stands = not_empty items && (all_stand items && (rest.stands && ends_chunk rest.sight)) }
 node_seen (Node-F.Range from at end) = record { sight = a_chunked; stands = int_le from at && int_lt at end }
-node_seen (Node-F.VecSeq items at kept) = record { sight = a_chunked; stands = nat_lt at (length items) && all_stand items }
+node_seen (Node-F.VecSeq kept items at) = record { sight = a_chunked; stands = nat_lt at (length items) && all_stand items }
 
 abbrev pub value_seen : ValueLayer Seen → Seen
 value_seen Value-F.Nil = good a_nil
@@ -110,10 +110,10 @@ value_seen (Value-F.Bool truth) = good a_bool
 value_seen (Value-F.Int number) = good (an_int number)
 value_seen (Value-F.Keyword name) = good another
 value_seen (Value-F.Text bytes) = good another
-value_seen (Value-F.Vector items kept) = record { sight = a_vector (length items); stands = all_stand items }
+value_seen (Value-F.Vector kept items) = record { sight = a_vector (length items); stands = all_stand items }
 value_seen (Value-F.Function function) = function
 value_seen (Value-F.Node node) = node
-value_seen (Value-F.Reduced held kept) = record { sight = another; stands = held.stands }
+value_seen (Value-F.Reduced kept held) = record { sight = another; stands = held.stands }
 value_seen (Value-F.Cell id) = good a_cell
 
 abbrev pub function_seen : FunctionLayer Seen → Seen

@@ -76,12 +76,12 @@ pub fn part(id: CellId) -> Value
 pub fn vector(items: PVec<Value>) -> Value
     requires items { IsTrue (are_well_formed items) }
     requires depth { depth_of_all items ≤ 255 }
-    ensures same { result ≡ Value.Vector items (depth_of_all items + 1) }
+    ensures same { result ≡ Value.Vector (depth_of_all items + 1) items }
     ensures stands { plain result ≡ M.vector (M.values (plains items)) }
     ensures well { IsTrue (is_well_formed result) }
 {
     let depth = deepest_of(&items, 255) + 1;
-    Value::Vector { items, depth }
+    Value::Vector { depth, items }
 }
 
 /// The empty list `()`.
@@ -107,7 +107,7 @@ pub fn before(alloc: Global, first: Value, rest: Value) -> Result<Value, NoMemor
     requires rest { IsTrue (is_well_formed rest) }
     requires ends { IsTrue (ends_cons (sight_of rest)) }
     requires depth { (depth first ≤ 255) × (depth rest ≤ 255) }
-    ensures same { IfOk result (λ v. v ≡ Value.Node (Node.Cons (first ∷ []) rest (max (depth_of_all (first ∷ [])) (depth rest) + 1))) }
+    ensures same { IfOk result (λ v. v ≡ Value.Node (Node.Cons (max (depth_of_all (first ∷ [])) (depth rest) + 1) (first ∷ []) rest)) }
     ensures stands { IfOk result (λ v. plain v ≡ M.cons (M.values (plain first ∷ [])) (plain rest)) }
     ensures well { IfOk result (λ v. IsTrue (is_well_formed v)) }
 {
@@ -126,7 +126,7 @@ pub fn chunk_before(alloc: Global, items: PVec<Value>, rest: Value) -> Result<Va
     requires rest { IsTrue (is_well_formed rest) }
     requires ends { IsTrue (ends_chunk (sight_of rest)) }
     requires depth { (depth_of_all items ≤ 255) × (depth rest ≤ 255) }
-    ensures same { IfOk result (λ v. v ≡ Value.Node (Node.Chunk items rest (max (depth_of_all items) (depth rest) + 1))) }
+    ensures same { IfOk result (λ v. v ≡ Value.Node (Node.Chunk (max (depth_of_all items) (depth rest) + 1) items rest)) }
     ensures stands { IfOk result (λ v. plain v ≡ M.chunk (M.values (plains items)) (plain rest)) }
     ensures well { IfOk result (λ v. IsTrue (is_well_formed v)) }
 {
@@ -141,13 +141,13 @@ pub fn chunk_before(alloc: Global, items: PVec<Value>, rest: Value) -> Result<Va
 pub fn reduced(alloc: Global, value: Value) -> Result<Value, NoMemory>
     requires value { IsTrue (is_well_formed value) }
     requires depth { depth value ≤ 255 }
-    ensures same { IfOk result (λ v. v ≡ Value.Reduced value (depth value + 1)) }
+    ensures same { IfOk result (λ v. v ≡ Value.Reduced (depth value + 1) value) }
     ensures stands { IfOk result (λ v. plain v ≡ M.reduced (plain value)) }
     ensures well { IfOk result (λ v. IsTrue (is_well_formed v)) }
 {
     let depth = depth_of(&value) + 1;
     match Shared::of(alloc, value) {
-        Ok(value) => Ok(Value::Reduced { value, depth }),
+        Ok(value) => Ok(Value::Reduced { depth, value }),
         Err((_, why)) => Err(why),
     }
 }

@@ -18,9 +18,9 @@ pub use builders::{
     term_of_two, truth, two_items, vector, word_value,
 };
 pub use cell_id::CellId;
-pub use depth::{deepest_of, depth_of};
+pub use depth::{deepest_from_last, deepest_of, depth_of};
 pub use line::Line;
-pub use parts::{cons_and, vector_and, vector_part};
+pub use parts::{chunk_part, cons_and, cons_part, vector_and, vector_part};
 pub use print::print_atom;
 pub use term::{Answer, CallStop, Term, Turn};
 pub use text::Text;

@@ -28,17 +28,17 @@ impl Node {
     #[tactic(auto, using(crate::proofs::WellFormedLemmas::vector_seq_well))]
     /// The items of a vector of that depth from the first on, and `None` where there is none.
     pub fn over(items: PVec<Value>, depth: u32) -> Option<Node>
-        requires well { IsTrue (is_well_formed (Value.Vector items depth)) }
-        ensures same { SomeIff result (0 < length items) (Node.VecSeq items 0 depth) }
+        requires well { IsTrue (is_well_formed (Value.Vector depth items)) }
+        ensures same { SomeIff result (0 < length items) (Node.VecSeq depth items 0) }
         ensures well { IfSome result (λ node. IsTrue (is_well_formed_node node)) }
     {
         if items.len() == 0 {
             return None;
         }
         Some(Node::VecSeq {
+            depth,
             items,
             at: 0,
-            depth,
         })
     }
 
@@ -50,11 +50,11 @@ impl Node {
         requires rest { IsTrue (is_well_formed rest) }
         requires ends { IsTrue (ends_cons (sight_of rest)) }
         requires depth { (depth_of_all heads ≤ 255) × (depth rest ≤ 255) }
-        ensures same { result ≡ Node.Cons heads rest (max (depth_of_all heads) (depth rest) + 1) }
+        ensures same { result ≡ Node.Cons (max (depth_of_all heads) (depth rest) + 1) heads rest }
         ensures well { IsTrue (is_well_formed_node result) }
     {
         let depth = deepest_of(&heads, 255).max(depth_of(rest.get())) + 1;
-        Node::Cons { heads, rest, depth }
+        Node::Cons { depth, heads, rest }
     }
 
     #[tactic(auto, using(crate::proofs::WellFormedLemmas::chunk_well, crate::proofs::WellFormedLemmas::list_keeps, crate::proofs::WellFormedLemmas::value_keeps))]
@@ -65,24 +65,24 @@ impl Node {
         requires rest { IsTrue (is_well_formed rest) }
         requires ends { IsTrue (ends_chunk (sight_of rest)) }
         requires depth { (depth_of_all items ≤ 255) × (depth rest ≤ 255) }
-        ensures same { result ≡ Node.Chunk items rest (max (depth_of_all items) (depth rest) + 1) }
+        ensures same { result ≡ Node.Chunk (max (depth_of_all items) (depth rest) + 1) items rest }
         ensures well { IsTrue (is_well_formed_node result) }
     {
         let depth = deepest_of(&items, 255).max(depth_of(rest.get())) + 1;
-        Node::Chunk { items, rest, depth }
+        Node::Chunk { depth, items, rest }
     }
 }
 
 impl FnValue {
     /// A word as a function, with nothing bound.
     pub fn word(word: Builtin) -> FnValue
-        ensures same { result ≡ record { target = Target.Builtin word; bound = []; depth = 1 } }
+        ensures same { result ≡ record { target = Target.Builtin word; depth = 1; bound = [] } }
         ensures well { IsTrue (is_well_formed_function result) }
     {
         FnValue {
             target: Target::Builtin(word),
-            bound: PVec::new(),
             depth: 1,
+            bound: PVec::new(),
         }
     }
 
@@ -92,14 +92,14 @@ impl FnValue {
         requires bound { IsTrue (are_well_formed bound) }
         requires binds { IsTrue (binds target (map sight_of bound)) }
         requires depth { depth_of_all bound ≤ 255 }
-        ensures same { result ≡ record { target = target; bound = bound; depth = depth_of_all bound + 1 } }
+        ensures same { result ≡ record { target = target; depth = depth_of_all bound + 1; bound = bound } }
         ensures well { IsTrue (is_well_formed_function result) }
     {
         let depth = deepest_of(&bound, 255) + 1;
         FnValue {
             target,
-            bound,
             depth,
+            bound,
         }
     }
 }

@@ -16,11 +16,11 @@ pub enum Value {
     /// A keyword, by its name without the colon.
     Keyword(Text),
     Text(Text),
-    Vector { items: PVec<Value>, depth: u32 },
+    Vector { depth: u32, items: PVec<Value> },
     Function(FnValue),
     Node(Node),
     /// A value that ends a reduction.
-    Reduced { value: Held, depth: u32 },
+    Reduced { depth: u32, value: Held },
     /// A part, by its number: a lazy cell or a future.
     Cell(CellId),
 }
@@ -33,15 +33,15 @@ pub enum Node {
     Empty,
     /// Leading elements, the first element last, before a rest.
     Cons {
+        depth: u32,
         heads: PVec<Value>,
         rest: Held,
-        depth: u32,
     },
     /// A chunk of elements, the first element first, before a rest.
     Chunk {
+        depth: u32,
         items: PVec<Value>,
         rest: Held,
-        depth: u32,
     },
     /// The integers from `at` up to `end`, which it leaves out. The range began at `from`.
     Range {
@@ -51,9 +51,9 @@ pub enum Node {
     },
     /// The items of a vector from place `at` on.
     VecSeq {
+        depth: u32,
         items: PVec<Value>,
         at: u32,
-        depth: u32,
     },
 }
 
@@ -63,10 +63,10 @@ pub enum Node {
 pub struct FnValue {
     /// What is called.
     pub target: Target,
-    /// The bound arguments in order.
-    pub bound: PVec<Value>,
     /// How deep the function is: one more than the deepest that is bound.
     pub depth: u32,
+    /// The bound arguments in order.
+    pub bound: PVec<Value>,
 }
 
 /// At most two atomic increments, whatever the value holds.
@@ -78,15 +78,15 @@ impl Share for Value {
             Value::Int(number) => Value::Int(*number),
             Value::Keyword(name) => Value::Keyword(name.share()?),
             Value::Text(text) => Value::Text(text.share()?),
-            Value::Vector { items, depth } => Value::Vector {
-                items: items.share()?,
+            Value::Vector { depth, items } => Value::Vector {
                 depth: *depth,
+                items: items.share()?,
             },
             Value::Function(function) => Value::Function(function.share()?),
             Value::Node(node) => Value::Node(node.share()?),
-            Value::Reduced { value, depth } => Value::Reduced {
-                value: value.share()?,
+            Value::Reduced { depth, value } => Value::Reduced {
                 depth: *depth,
+                value: value.share()?,
             },
             Value::Cell(id) => Value::Cell(*id),
         })
@@ -98,25 +98,25 @@ impl Share for Node {
     fn share(&self) -> Result<Node, NoMemory> {
         Ok(match self {
             Node::Empty => Node::Empty,
-            Node::Cons { heads, rest, depth } => Node::Cons {
+            Node::Cons { depth, heads, rest } => Node::Cons {
+                depth: *depth,
                 heads: heads.share()?,
                 rest: rest.share()?,
-                depth: *depth,
             },
-            Node::Chunk { items, rest, depth } => Node::Chunk {
+            Node::Chunk { depth, items, rest } => Node::Chunk {
+                depth: *depth,
                 items: items.share()?,
                 rest: rest.share()?,
-                depth: *depth,
             },
             Node::Range { from, at, end } => Node::Range {
                 from: *from,
                 at: *at,
                 end: *end,
             },
-            Node::VecSeq { items, at, depth } => Node::VecSeq {
+            Node::VecSeq { depth, items, at } => Node::VecSeq {
+                depth: *depth,
                 items: items.share()?,
                 at: *at,
-                depth: *depth,
             },
         })
     }
@@ -128,8 +128,8 @@ impl Share for FnValue {
         let bound = self.bound.share()?;
         Ok(FnValue {
             target: self.target,
-            bound,
             depth: self.depth,
+            bound,
         })
     }
 }
