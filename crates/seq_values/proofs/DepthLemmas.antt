@@ -47,6 +47,17 @@ chunk_depth items rest kept h = is_kept _ _ _ kept (graded_chunk items rest kept
 pub vec_seq_depth : (items : List Value) (at kept : ℕ) → IsTrue (node_keeps_depth (N.VecSeq kept items at)) → kept ≡ depth_of_node (N.VecSeq kept items at)
 vec_seq_depth items at kept h = is_kept _ _ _ kept (graded_vec_seq items at kept) h
 
+-- ## How deep what holds others is, whatever it keeps
+
+pub vector_is_deep : (items : List Value) (kept : ℕ) → depth (V.Vector kept items) ≡ depth_of_all items + 1
+vector_is_deep items kept = ap (λ g. g.depth) (graded_vector items kept)
+
+pub reduced_is_deep : (held : Value) (kept : ℕ) → depth (V.Reduced kept held) ≡ depth held + 1
+reduced_is_deep held kept = ap (λ g. g.depth) (graded_reduced held kept)
+
+pub reduced_keeps : (held : Value) (kept : ℕ) → IsTrue (keeps_depth held) → kept ≡ depth held + 1 → IsTrue (keeps_depth (V.Reduced kept held))
+reduced_keeps held kept h e = ap (λ g. g.right) (graded_reduced held kept) ∙ both _ _ h (eq-eqb kept (depth held + 1) e)
+
 -- ## Items, one after the other
 
 some_is : (x y : Value) → Some x ≡ Some y → x ≡ y
@@ -57,10 +68,14 @@ item_keeps [] at item e h = absurd (cc e)
 item_keeps (v ∷ vs) zero item e h = ap keeps_depth (some_is item v e) ∙ (and_parts (keeps_depth v) (keep_depth vs) h).0
 item_keeps (v ∷ vs) (suc at) item e h = item_keeps vs at item e (and_parts (keeps_depth v) (keep_depth vs) h).1
 
+more_seen : (items : List Value) (n at : ℕ) (item : Value) → n ≡ at + 1 → Some item ≡ slice_get items at → max (depth_of_all (take at items)) (depth item) ≡ depth_of_all (take n items)
+more_seen [] n at item q e = absurd (cc e)
+more_seen (v ∷ vs) zero at item q e = absurd (omega (arith, q))
+more_seen (v ∷ vs) (suc n) zero item q e = let n_is : n ≡ 0 = omega (arith, q) in omega (arith, ap depth (some_is item v e), ap (λ k. depth_of_all (take k vs)) n_is)
+more_seen (v ∷ vs) (suc n) (suc at) item q e = omega (arith, more_seen vs n at item (omega (arith, q)) e)
+
 pub one_more_seen : (items : List Value) (at : ℕ) (item : Value) → Some item ≡ slice_get items at → max (depth_of_all (take at items)) (depth item) ≡ depth_of_all (take (at + 1) items)
-one_more_seen [] at item e = absurd (cc e)
-one_more_seen (v ∷ vs) zero item e = omega (arith, ap depth (some_is item v e))
-one_more_seen (v ∷ vs) (suc at) item e = omega (arith, one_more_seen vs at item e)
+one_more_seen items at item e = more_seen items (at + 1) at item refl e
 
 pub seen_within : (items : List Value) (at : ℕ) → depth_of_all (take at items) ≤ depth_of_all items
 seen_within [] at = omega (arith, ap depth_of_all (take-nil {A = Value} at))
@@ -68,10 +83,11 @@ seen_within (v ∷ vs) zero = omega arith
 seen_within (v ∷ vs) (suc at) = omega (arith, seen_within vs at)
 
 -- from the last on
-pub one_more_behind : (items : List Value) (at : ℕ) (item : Value) → Some item ≡ slice_get items at → max (depth_of_all (drop (at + 1) items)) (depth item) ≡ depth_of_all (drop at items)
-one_more_behind [] at item e = absurd (cc e)
-one_more_behind (v ∷ vs) zero item e = omega (arith, ap depth (some_is item v e))
-one_more_behind (v ∷ vs) (suc at) item e = one_more_behind vs at item e
+more_behind : (items : List Value) (n at : ℕ) (item : Value) → n ≡ at + 1 → Some item ≡ slice_get items at → max (depth_of_all (drop n items)) (depth item) ≡ depth_of_all (drop at items)
+more_behind [] n at item q e = absurd (cc e)
+more_behind (v ∷ vs) zero at item q e = absurd (omega (arith, q))
+more_behind (v ∷ vs) (suc n) zero item q e = let n_is : n ≡ 0 = omega (arith, q) in omega (arith, ap depth (some_is item v e), ap (λ k. depth_of_all (drop k vs)) n_is)
+more_behind (v ∷ vs) (suc n) (suc at) item q e = more_behind vs n at item (omega (arith, q)) e
 
 pub behind_within : (items : List Value) (at : ℕ) → depth_of_all (drop at items) ≤ depth_of_all items
 behind_within [] at = omega (arith, ap depth_of_all (drop-nil {A = Value} at))
@@ -83,4 +99,4 @@ pub last_more : (items : List Value) (count done found : ℕ) (item : Value) →
 last_more items count done found item c lt e f =
     let before : length items - done ≡ count - 1 - done + 1 = omega (arith, c, lt) in
     let after : length items - (done + 1) ≡ count - 1 - done = omega (arith, c, lt) in
-    ap (λ n. max n (depth item)) (f ∙ ap (λ k. depth_of_all (drop k items)) before) ∙ one_more_behind items (count - 1 - done) item e ∙ sym (ap (λ k. depth_of_all (drop k items)) after)
+    ap (λ n. max n (depth item)) (f ∙ ap (λ k. depth_of_all (drop k items)) before) ∙ more_behind items (count - 1 - done + 1) (count - 1 - done) item refl e ∙ sym (ap (λ k. depth_of_all (drop k items)) after)

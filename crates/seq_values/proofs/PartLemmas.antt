@@ -1,7 +1,7 @@
 -- How deep a vector or a node is after an item is added, or some are left out.
 use Rattle.std.proofs.Common.{◌≡◌, refl, sym, ap, ◌∙◌, subst, ℕ, zero, suc, ◌+◌, ◌-◌, ◌≤◌, ◌<◌, max, List, [], ◌∷◌, ◌++◌, map, length, take, drop, Bool, true, false, ◌&&◌, arith}
 use Rattle.std.specs.Prelude.{IsTrue}
-use Rattle.std.proofs.lemmas.List.{length-append, length-take, length-drop}
+use Rattle.std.proofs.lemmas.List.{length-append, length-take, length-drop, take_rest}
 use Rattle.std.proofs.Math.Seq.{take-nil, drop-nil}
 use Rattle.std.proofs.Math.Nat.{le-max_left, le-max_right, max-le}
 use Rattle.seq_values.specs.declared.value.Value.TheVariants as V
@@ -82,6 +82,9 @@ module _ (items : List Value) (kept from count : ℕ) (h : IsTrue (is_well_forme
 
   pub vector_part_well : (k : ℕ) → k ≡ depth_of_all part + 1 → IsTrue (is_well_formed (V.Vector k part))
   vector_part_well k e = vector_well part k part_formed (omega (arith, window_within from count items, (vector_kept items kept h).1)) e
+
+pub all_behind : (items : List Value) (done : ℕ) → take (length items - done) (drop done items) ≡ drop done items
+all_behind items done = take_rest items done
 
 -- what is left of a Cons of that depth
 module _ (heads : List Value) (rest : Value) (kept left : ℕ) (h : IsTrue (is_well_formed_node (N.Cons kept heads rest))) where

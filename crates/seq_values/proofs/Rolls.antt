@@ -1,9 +1,9 @@
 -- What is seen of a value of one layer, and how deep it is, by what it holds.
-use Rattle.std.proofs.Common.{◌≡◌, sym, ap, ◌∙◌, ℕ, ◌+◌, max, List, map, ◌&&◌}
+use Rattle.std.proofs.Common.{◌≡◌, sym, ap, ◌∙◌, ℕ, ◌+◌, max, ℤ, List, map, ◌&&◌}
 use Rattle.seq_values.specs.declared.value.Value.TheVariants as V
 use Rattle.seq_values.specs.declared.value.Node.TheVariants as N
 use Rattle.seq_values.specs.Layers.{fold-roll-Value, fold-roll-Node, fold_out-FnValue, Value, Node, FnValue, Value-F, Node-F}
-use Rattle.seq_values.specs.Depth.{Grade, holding, node_grade, value_grade, function_grade, graded, graded_node, graded_function, depth, keeps_depth, depth_of_all, keep_depth}
+use Rattle.seq_values.specs.Depth.{Grade, flat, holding, node_grade, value_grade, function_grade, graded, graded_node, graded_function, depth, keeps_depth, depth_of_all, keep_depth}
 use Rattle.seq_values.specs.WellFormed.{Seen, node_seen, value_seen, function_seen, seen, seen_node, seen_function}
 
 pub seen_vector : (items : List Value) (kept : ℕ) → seen (V.Vector kept items) ≡ value_seen (Value-F.Vector kept (map seen items))
@@ -53,3 +53,9 @@ seen_vec_seq items at kept = ap seen_node (sym (N.rolls-VecSeq kept items at)) �
 
 pub graded_vec_seq : (items : List Value) (at kept : ℕ) → graded_node (N.VecSeq kept items at) ≡ holding (depth_of_all items) (keep_depth items) kept
 graded_vec_seq items at kept = ap graded_node (sym (N.rolls-VecSeq kept items at)) ∙ fold-roll-Node Grade Grade Grade node_grade value_grade function_grade (Node-F.VecSeq kept items at)
+
+pub seen_range : (from at end : ℤ) → seen_node (N.Range from at end) ≡ node_seen (Node-F.Range from at end)
+seen_range from at end = ap seen_node (sym (N.rolls-Range from at end)) ∙ fold-roll-Node Seen Seen Seen node_seen value_seen function_seen (Node-F.Range from at end)
+
+pub graded_range : (from at end : ℤ) → graded_node (N.Range from at end) ≡ flat
+graded_range from at end = ap graded_node (sym (N.rolls-Range from at end)) ∙ fold-roll-Node Grade Grade Grade node_grade value_grade function_grade (Node-F.Range from at end)

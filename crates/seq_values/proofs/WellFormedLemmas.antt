@@ -1,9 +1,10 @@
 -- What a well-formed value holds is well formed, and what is made of well-formed values is.
-use Rattle.std.proofs.Common.{◌≡◌, refl, sym, ap, ◌∙◌, subst, ℕ, zero, suc, ◌+◌, ◌≤◌, ◌<◌, max, List, [], ◌∷◌, ◌++◌, map, length, take, drop, Bool, true, false, ◌&&◌, nat_lt, nat_le, nat_eq, IfSome, Some, None, slice_get, Bor, arith}
+use Rattle.std.proofs.Common.{◌≡◌, refl, sym, ap, ◌∙◌, subst, ℕ, zero, suc, ◌+◌, ◌≤◌, ◌<◌, max, List, [], ◌∷◌, ◌++◌, map, length, take, drop, Bool, true, false, ◌&&◌, nat_lt, nat_le, nat_eq, ℤ, pos, ◌+ℤ◌, ◌<ℤ◌, int_le, int_lt, IfSome, Some, None, slice_get, Bor, arith}
 use Rattle.std.specs.Prelude.{IsTrue}
 use Rattle.std.specs.declared.option.Option.{Option}
 use Rattle.std.specs.Option.{option_copied}
 use Rattle.std.proofs.lemmas.Bool.{leb-true, le-leb, ltb-true, lt-ltb, eqb-true, eq-eqb}
+use Rattle.std.proofs.lemmas.Int.{ints}
 use Rattle.std.proofs.Math.Seq.{take-nil, drop-nil}
 use Rattle.std.proofs.lemmas.List.{length-map}
 use Rattle.std.proofs.Math.Nat.{le-max_left, le-max_right, max-le}
@@ -15,7 +16,7 @@ use Rattle.seq_values.specs.WellFormedTerms.{takes, is_well_formed_term}
 use Rattle.seq_values.specs.declared.term.Term.{Term}
 use Rattle.seq_values.specs.WellFormed.{Seen, sights, all_stand, ends_cons, ends_chunk, not_empty, seen, seen_node, seen_function, sight_of, binds, is_measured, is_well_formed, is_well_formed_node, is_well_formed_function, are_well_formed}
 use Rattle.seq_values.proofs.DepthLemmas.{and_parts, both}
-use Rattle.seq_values.proofs.Rolls.{seen_vector, graded_vector, seen_reduced, graded_reduced, seen_as_node, graded_as_node, seen_as_function, graded_as_function, seen_fn, graded_fn, seen_cons, graded_cons, seen_chunk, graded_chunk, seen_vec_seq, graded_vec_seq}
+use Rattle.seq_values.proofs.Rolls.{seen_vector, graded_vector, seen_reduced, graded_reduced, seen_as_node, graded_as_node, seen_as_function, graded_as_function, seen_fn, graded_fn, seen_cons, graded_cons, seen_chunk, graded_chunk, seen_vec_seq, graded_vec_seq, seen_range, graded_range}
 
 -- ## What is known of a well-formed value
 
@@ -87,6 +88,9 @@ well_at (v ∷ vs) (suc at) h = well_at vs at (and_parts (is_well_formed v) (are
 pub well_got : (r : Option (Bor Value)) (values : List Value) (at : ℕ) → option_copied r ≡ slice_get values at → are_well_formed values ≡ true → IfSome r (λ v. is_well_formed v.now ≡ true)
 well_got None values at e h = tt
 well_got (Some b) values at e h = subst (λ o. IfSome o (λ v. is_well_formed v ≡ true)) (sym e) (well_at values at h)
+
+pub member_well : (values : List Value) (at : ℕ) (v : Value) → Some v ≡ slice_get values at → IsTrue (are_well_formed values) → IsTrue (is_well_formed v)
+member_well values at v e h = subst (λ o. IfSome o (λ w. is_well_formed w ≡ true)) (sym e) (well_at values at h)
 
 pub well_joined : (front back : List Value) → are_well_formed front ≡ true → are_well_formed back ≡ true → are_well_formed (front ++ back) ≡ true
 well_joined [] back f b = b
@@ -245,6 +249,43 @@ chunk_kept items rest kept h = kept_in (seen_node (N.Chunk kept items rest)) _ _
 
 pub vec_seq_kept : (items : List Value) (at kept : ℕ) → IsTrue (is_well_formed_node (N.VecSeq kept items at)) → (kept ≡ depth_of_all items + 1) × (depth_of_all items ≤ 255)
 vec_seq_kept items at kept h = kept_in (seen_node (N.VecSeq kept items at)) _ _ _ kept (graded_vec_seq items at kept) h
+
+-- ## The members and the rest of a node, and the arguments of a function
+
+pub cons_each : (heads : List Value) (rest : Value) (kept : ℕ) → IsTrue (is_well_formed_node (N.Cons kept heads rest)) → IsTrue (are_well_formed heads)
+cons_each heads rest kept h = (cons_holds heads rest kept h).0.each
+
+pub cons_last : (heads : List Value) (rest : Value) (kept : ℕ) → IsTrue (is_well_formed_node (N.Cons kept heads rest)) → IsTrue (is_well_formed rest)
+cons_last heads rest kept h = (cons_holds heads rest kept h).0.last
+
+pub chunk_each : (items : List Value) (rest : Value) (kept : ℕ) → IsTrue (is_well_formed_node (N.Chunk kept items rest)) → IsTrue (are_well_formed items)
+chunk_each items rest kept h = (chunk_holds items rest kept h).0.each
+
+pub chunk_last : (items : List Value) (rest : Value) (kept : ℕ) → IsTrue (is_well_formed_node (N.Chunk kept items rest)) → IsTrue (is_well_formed rest)
+chunk_last items rest kept h = (chunk_holds items rest kept h).0.last
+
+pub vec_seq_each : (items : List Value) (at kept : ℕ) → IsTrue (is_well_formed_node (N.VecSeq kept items at)) → IsTrue (are_well_formed items)
+vec_seq_each items at kept h = (vec_seq_holds items at kept h).1
+
+-- at another place
+pub vec_seq_at : (items : List Value) (at kept place : ℕ) → IsTrue (is_well_formed_node (N.VecSeq kept items at)) → place < length items → IsTrue (is_well_formed_node (N.VecSeq kept items place))
+vec_seq_at items at kept place h lt = vec_seq_well items place kept lt (vec_seq_each items at kept h) (vec_seq_kept items at kept h).1 (vec_seq_kept items at kept h).0
+
+-- ## Ranges
+
+pub range_begun : (from at end : ℤ) → IsTrue (is_well_formed_node (N.Range from at end)) → int_le from at ≡ true
+range_begun from at end h =
+    (and_parts (int_le from at) (int_lt at end) (sym (ap (λ s. s.stands) (seen_range from at end)) ∙ stands_in (seen_node (N.Range from at end)) (graded_node (N.Range from at end)) h)).0
+
+pub range_well : (from at end : ℤ) → int_le from at ≡ true → at <ℤ end → IsTrue (is_well_formed_node (N.Range from at end))
+range_well from at end b lt =
+    let below : int_lt at end ≡ true = grind (arith, ints) in
+    formed (seen_node (N.Range from at end)) (graded_node (N.Range from at end)) (ap (λ s. s.stands) (seen_range from at end) ∙ both (int_le from at) (int_lt at end) b below)
+    (ap (λ g. g.right) (graded_range from at end)) (omega (arith, ap (λ g. g.depth) (graded_range from at end)))
+
+-- a range that is one further still stands
+pub range_on : (from at : ℤ) → int_le from at ≡ true → int_le from (at +ℤ pos 1) ≡ true
+range_on from at h = grind (arith, ints)
 
 -- ## A sequence over a vector
 

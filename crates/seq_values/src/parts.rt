@@ -90,14 +90,10 @@ pub fn cons_part(
     ensures same { IfOk result (λ n. n ≡ Node.Cons (max (depth_of_all (take left heads.now)) (value_depth rest.now) + 1) (take left heads.now) rest.now) }
     ensures well { IfOk result (λ n. IsTrue (is_well_formed_node n)) }
 {
+    let heads = first_items(alloc, heads, left)?;
+    let depth = deepest_before(&heads, depth_of(rest.get()), depth - 1) + 1;
     let rest = rest.share()?;
-    match heads.window(alloc, 0, left)? {
-        Some(heads) => {
-            let depth = deepest_before(&heads, depth_of(rest.get()), depth - 1) + 1;
-            Ok(Node::Cons { depth, heads, rest })
-        }
-        None => unreachable!(),
-    }
+    Ok(Node::Cons { depth, heads, rest })
 }
 
 /// The depth of the deepest of heads and of what stands behind them, given a bound of both. No head is looked at where what stands behind has the bound.
@@ -127,12 +123,31 @@ pub fn chunk_part(
     ensures same { IfOk result (λ n. n ≡ Node.Chunk (max (depth_of_all (drop done items.now)) (value_depth rest.now) + 1) (drop done items.now) rest.now) }
     ensures well { IfOk result (λ n. IsTrue (is_well_formed_node n)) }
 {
+    let items = last_items(alloc, items, done)?;
+    let depth = deepest_of(&items, depth - 1).max(depth_of(rest.get())) + 1;
     let rest = rest.share()?;
+    Ok(Node::Chunk { depth, items, rest })
+}
+
+/// The first `count` items.
+fn first_items(alloc: Global, items: &PVec<Value>, count: usize) -> Result<PVec<Value>, NoMemory>
+    requires { count ≤ length items.now }
+    ensures { IfOk result (λ part. part ≡ take count items.now) }
+{
+    match items.window(alloc, 0, count)? {
+        Some(part) => Ok(part),
+        None => unreachable!(),
+    }
+}
+
+#[tactic(auto, using(crate::proofs::PartLemmas::all_behind))]
+/// The items behind the first `done`.
+fn last_items(alloc: Global, items: &PVec<Value>, done: usize) -> Result<PVec<Value>, NoMemory>
+    requires { done ≤ length items.now }
+    ensures { IfOk result (λ part. part ≡ drop done items.now) }
+{
     match items.window(alloc, done, items.len() - done)? {
-        Some(items) => {
-            let depth = deepest_of(&items, depth - 1).max(depth_of(rest.get())) + 1;
-            Ok(Node::Chunk { depth, items, rest })
-        }
+        Some(part) => Ok(part),
         None => unreachable!(),
     }
 }
