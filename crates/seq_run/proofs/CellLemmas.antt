@@ -199,19 +199,19 @@ near_answer (Ok items) steps n few small e = (elements steps n, e, near_elements
 near_answer (Err why) steps n few small e = tt
 
 abbrev layer_items : Value-F Node Value FnValue → List Value
-layer_items (Value-F.Vector items) = items
+layer_items (Value-F.Vector kept items) = items
 layer_items _ = []
 
-out_vector : (items : List Value) → out-Value (Vector items) ≡ Value-F.Vector items
-out_vector items = ap out-Value (sym (rolls-Vector items)) ∙ out-roll-Value (Value-F.Vector items)
+out_vector : (items : List Value) → out-Value (Vector 1 items) ≡ Value-F.Vector 1 items
+out_vector items = ap out-Value (sym (rolls-Vector 1 items)) ∙ out-roll-Value (Value-F.Vector 1 items)
 
-vector_same : (us vs : List Value) → Vector us ≡ Vector vs → us ≡ vs
+vector_same : (us vs : List Value) → Vector 1 us ≡ Vector 1 vs → us ≡ vs
 vector_same us vs h = ap layer_items (sym (out_vector us) ∙ (ap out-Value h ∙ out_vector vs))
 
 done_same : (u v : Value) → L.Done u ≡ L.Done v → u ≡ v
 done_same u v h = cc
 
-pub seen_items : (answer : Result (List Value) NoMemory) (look : Look) (xs ys : List Value) → look ≡ L.Done (Vector xs) → xs ≡ ys → IfOk answer (λ items. look ≡ L.Done (Vector items))
+pub seen_items : (answer : Result (List Value) NoMemory) (look : Look) (xs ys : List Value) → look ≡ L.Done (Vector 1 xs) → xs ≡ ys → IfOk answer (λ items. look ≡ L.Done (Vector 1 items))
     → IfOk answer (λ items. items ≡ ys)
-seen_items (Ok items) look xs ys e f g = vector_same items xs (done_same (Vector items) (Vector xs) (sym g ∙ e)) ∙ f
+seen_items (Ok items) look xs ys e f g = vector_same items xs (done_same (Vector 1 items) (Vector 1 xs) (sym g ∙ e)) ∙ f
 seen_items (Err why) look xs ys e f g = tt

@@ -1,5 +1,5 @@
 -- Numbers as the items of a vector.
-use Rattle.std.proofs.Common.{◌≡◌, ℕ, zero, suc, ◌+◌, ◌<◌, ◌≤◌, min, ℤ, pos, negsuc, ◌+ℤ◌, ◌≤ℤ◌, List, [], ◌∷◌, ◌++◌, map, take, length, get_or, refl, sym, ◌∙◌, ap, subst, arith}
+use Rattle.std.proofs.Common.{◌≡◌, ℕ, zero, suc, ◌+◌, ◌<◌, ◌≤◌, min, ℤ, pos, negsuc, ◌+ℤ◌, ◌≤ℤ◌, List, [], ◌∷◌, ◌++◌, map, take, length, get_or, slice_get, Some, refl, sym, ◌∙◌, ap, subst, arith}
 use Rattle.std.proofs.Math.IntN.{+ℤ_assoc}
 use Rattle.std.proofs.lemmas.Int.{ints}
 use Rattle.seq_values.specs.declared.value.Value.{Value}
@@ -99,6 +99,14 @@ length_elements (Take m ∷ steps) n =
 
 pub length_integers : (xs : List ℤ) → length (integers xs) ≡ length xs
 length_integers xs = length_map Int xs
+
+pub got_or : (items : List Value) (at : ℕ) (d : Value) → Some d ≡ slice_get items at → d ≡ get_or items at d
+got_or [] at d e = absurd (cc e)
+got_or (v ∷ vs) zero d e = some_is d v e
+  where
+    some_is : (x y : Value) → Some x ≡ Some y → x ≡ y
+    some_is x y h = cc h
+got_or (v ∷ vs) (suc at) d e = got_or vs at d e
 
 -- the number at a place
 pub picked : (xs : List ℤ) (at : ℕ) (d : Value) → at < length xs → d ≡ get_or (integers xs) at d

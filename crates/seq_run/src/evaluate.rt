@@ -86,7 +86,7 @@ fn summed(
 {
     let list = laid(alloc, cells, form, steps, range)?;
     let items = forced(alloc, cells, form, steps, &list)?;
-    Ok(sum(items.as_slice()))
+    Ok(sum(&items))
 }
 
 /// Makes the cells of a list, the innermost first. The value is the list.
@@ -284,7 +284,7 @@ fn finished(
     requires own { IsOwn cells.old.book.now work }
     requires numbers { IfOk source (λ items. (xs : List ℤ) × (items ≡ integers xs) × AreNear 8 xs) }
     ensures done { OnOk result ((id : ℕ) (steps : List Step) (n : ℕ) → IsOn id work.place → IfOk source (λ items. items ≡ integers (elements steps n))
-        → shown (cell_at cells.new.book.now id) ≡ Done (Vector (integers (elements (step ∷ steps) n)))) }
+        → shown (cell_at cells.new.book.now id) ≡ Done (Vector 1 (integers (elements (step ∷ steps) n)))) }
     ensures empty { OnErr result ((id : ℕ) → IsOn id work.place → shown (cell_at cells.new.book.now id) ≡ Empty) }
     ensures lost { OnErr result (cells.new.book.now.gave_up ≡ true) }
     ensures others { (w : Duty) → w.claim ≢ work.claim → IsOwn cells.old.book.now w → IsOwn cells.new.book.now w }
@@ -308,10 +308,10 @@ fn finished(
 /// Finishes a work with a vector.
 fn done(cells: &mut PlainCells<'_>, work: Work, items: PVec<Value>)
     requires own { IsOwn cells.old.book.now work }
-    ensures done { (id : ℕ) → IsOn id work.place → shown (cell_at cells.new.book.now id) ≡ Done (Vector items) }
+    ensures done { (id : ℕ) → IsOn id work.place → shown (cell_at cells.new.book.now id) ≡ Done (Vector 1 items) }
     ensures others { (w : Duty) → w.claim ≢ work.claim → IsOwn cells.old.book.now w → IsOwn cells.new.book.now w }
 {
-    cells.finish(work, Value::Vector(items));
+    cells.finish(work, Value::Vector { depth: 1, items });
 }
 
 /// Gives a work up.
@@ -326,12 +326,12 @@ fn given_up(cells: &mut PlainCells<'_>, work: Work)
 
 /// The items that a look at a finished cell shares.
 fn seen(cells: &mut PlainCells<'_>, id: CellId) -> Result<PVec<Value>, NoMemory>
-    requires done { (items : List Item) × (shown (cell_at cells.old.book.now id) ≡ Done (Vector items)) }
+    requires done { (items : List Item) × (shown (cell_at cells.old.book.now id) ≡ Done (Vector 1 items)) }
     ensures same { cells.new.book.now ≡ cells.old.book.now }
-    ensures items { IfOk result (λ items. shown (cell_at cells.old.book.now id) ≡ Done (Vector items)) }
+    ensures items { IfOk result (λ items. shown (cell_at cells.old.book.now id) ≡ Done (Vector 1 items)) }
 {
     match looked(cells, id)? {
-        Look::Done(Value::Vector(items)) => Ok(items),
+        Look::Done(Value::Vector { items, .. }) => Ok(items),
         _ => unreachable!(),
     }
 }

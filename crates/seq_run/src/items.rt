@@ -1,5 +1,5 @@
 //! The numbers of a list as the items of a vector.
-ghost use Rattle.std.specs.Prelude.{◌≡◌, ◌≤◌, ◌≤ℤ◌, ◌+ℤ◌, ◌⊎◌, ◌∷◌, ◌++◌, [], pos, negsuc, ℤ, ℕ, List, length, map, take, IfOk, OnOk};
+ghost use Rattle.std.specs.Prelude.{◌≡◌, ◌<◌, ◌≤◌, ◌≤ℤ◌, ◌+ℤ◌, ◌⊎◌, ◌∷◌, ◌++◌, [], pos, negsuc, ℤ, ℕ, List, length, map, take, get_or, IfOk, OnOk};
 ghost use Rattle.seq_values.specs.declared.value.Value.TheVariants.{Int};
 ghost use Rattle.seq_run.specs.declared.chain.Step.{Step};
 ghost use Rattle.seq_run.specs.Elements.{numbers, elements, total_of};
@@ -63,8 +63,8 @@ pub fn stepped(alloc: Global, step: Step, items: &PVec<Value>) -> Result<PVec<Va
         → IfOk result (λ made. made ≡ integers (elements (step ∷ steps) n)) }
 {
     match step {
-        Step::Inc => moved(alloc, items.as_slice(), 1),
-        Step::Dec => moved(alloc, items.as_slice(), -1),
+        Step::Inc => moved(alloc, items, 1),
+        Step::Dec => moved(alloc, items, -1),
         Step::Take(most) => first(alloc, items, most),
     }
 }
@@ -80,17 +80,28 @@ fn first(alloc: Global, items: &PVec<Value>, most: u32) -> Result<PVec<Value>, N
     }
 }
 
+/// The item at a place that is there.
+#[tactic(auto, using(crate::proofs::ItemLemmas::got_or))]
+fn item_at(items: &PVec<Value>, at: usize) -> &Value
+    requires { at < length items.now }
+    ensures { result.now ≡ get_or items.now at result.now }
+{
+    match items.get(at) {
+        Some(item) => item,
+        None => unreachable!(),
+    }
+}
+
 /// Each number with another added.
 #[tactic(auto, using(crate::proofs::ItemLemmas::near_item, crate::proofs::ItemLemmas::moved_more, crate::proofs::ItemLemmas::moved_all))]
-fn moved(alloc: Global, items: &[Value], by: i64) -> Result<PVec<Value>, NoMemory>
+fn moved(alloc: Global, items: &PVec<Value>, by: i64) -> Result<PVec<Value>, NoMemory>
     requires numbers { (xs : List ℤ) × (items.now ≡ integers xs) × AreNear 8 xs }
-    requires few { length items.now ≤ 4294967295 }
     requires one { (by ≡ pos 1) ⊎ (by ≡ negsuc 0) }
     ensures { (xs : List ℤ) → items.now ≡ integers xs → IfOk result (λ made. made ≡ integers (map (λ x. x +ℤ by) xs)) }
 {
     let mut made = Vec::new(alloc);
     for at in 0..items.len() {
-        pushed(&mut made, sum_of(&items[at], by))?;
+        pushed(&mut made, sum_of(item_at(items, at), by))?;
     }
     vector_of(alloc, made)
 }
@@ -117,13 +128,13 @@ fn number_of(value: &Value) -> i64
 
 /// The sum of the items.
 #[tactic(auto, using(crate::proofs::ItemLemmas::near_item, crate::proofs::ItemLemmas::added_more, crate::proofs::ItemLemmas::added_all))]
-pub fn sum(items: &[Value]) -> i64
+pub fn sum(items: &PVec<Value>) -> i64
     requires numbers { (xs : List ℤ) × (items.now ≡ integers xs) × AreNear 8 xs × (length xs ≤ 1000) }
     ensures { (xs : List ℤ) → items.now ≡ integers xs → result ≡ total_of xs }
 {
     let mut total = 0i64;
     for at in 0..items.len() {
-        total = added(total, number_of(&items[at]));
+        total = added(total, number_of(item_at(items, at)));
     }
     total
 }
