@@ -277,6 +277,10 @@ pub range_begun : (from at end : ℤ) → IsTrue (is_well_formed_node (N.Range f
 range_begun from at end h =
     (and_parts (int_le from at) (int_lt at end) (sym (ap (λ s. s.stands) (seen_range from at end)) ∙ stands_in (seen_node (N.Range from at end)) (graded_node (N.Range from at end)) h)).0
 
+pub range_ends : (from at end : ℤ) → IsTrue (is_well_formed_node (N.Range from at end)) → int_lt at end ≡ true
+range_ends from at end h =
+    (and_parts (int_le from at) (int_lt at end) (sym (ap (λ s. s.stands) (seen_range from at end)) ∙ stands_in (seen_node (N.Range from at end)) (graded_node (N.Range from at end)) h)).1
+
 pub range_well : (from at end : ℤ) → int_le from at ≡ true → at <ℤ end → IsTrue (is_well_formed_node (N.Range from at end))
 range_well from at end b lt =
     let below : int_lt at end ≡ true = grind (arith, ints) in
