@@ -143,7 +143,7 @@ impl Cursor {
     }
 }
 
-#[tactic(auto, using(crate::proofs::CursorLemmas::member_well))]
+#[tactic(auto, using(seq_values::proofs::WellFormedLemmas::member_well))]
 /// The item at a place, with one more owner.
 fn shared_item(items: &PVec<Value>, at: usize) -> Result<Value, NoMemory>
     requires well { IsTrue (are_well_formed items.now) }
@@ -152,7 +152,10 @@ fn shared_item(items: &PVec<Value>, at: usize) -> Result<Value, NoMemory>
     ensures well { IfOk result (λ v. IsTrue (is_well_formed v)) }
 {
     match items.get(at) {
-        Some(value) => value.share(),
+        Some(value) => {
+            let copy = value.share()?;
+            Ok(copy)
+        }
         None => unreachable!(),
     }
 }

@@ -1,13 +1,12 @@
 -- A number that is kept is the depth of what keeps it.
-use Rattle.std.proofs.Common.{◌≡◌, refl, sym, ap, ◌∙◌, ℕ, zero, suc, ◌+◌, ◌-◌, ◌≤◌, ◌<◌, max, List, [], ◌∷◌, ◌++◌, map, length, take, drop, Bool, true, false, ◌&&◌, nat_eq, Some, None, slice_get, arith}
+use Rattle.std.proofs.Common.{◌≡◌, refl, sym, ap, ◌∙◌, ℕ, zero, suc, ◌+◌, ◌-◌, ◌≤◌, ◌<◌, max, List, [], ◌∷◌, length, take, drop, Bool, true, false, ◌&&◌, nat_eq, Some, slice_get, arith}
 use Rattle.std.specs.Prelude.{IsTrue}
 use Rattle.std.proofs.lemmas.Bool.{eqb-true, eq-eqb}
 use Rattle.std.proofs.Math.Seq.{take-nil, drop-nil}
-use Rattle.std.proofs.Math.Nat.{le-max_left, le-max_right}
 use Rattle.seq_values.specs.declared.value.Value.TheVariants as V
 use Rattle.seq_values.specs.declared.value.Node.TheVariants as N
 use Rattle.seq_values.specs.Layers.{Value, Node, FnValue}
-use Rattle.seq_values.specs.Depth.{Grade, deepest, all_right, holding, graded, depth, depth_of_node, depth_of_function, depth_of_all, keeps_depth, node_keeps_depth, function_keeps_depth, keep_depth}
+use Rattle.seq_values.specs.Depth.{Grade, holding, depth, depth_of_node, depth_of_all, keeps_depth, node_keeps_depth, keep_depth}
 use Rattle.seq_values.proofs.Rolls.{graded_vector, graded_reduced, graded_as_node, graded_as_function, graded_fn, graded_cons, graded_chunk, graded_vec_seq}
 
 pub and_parts : (a b : Bool) → (a && b) ≡ true → (a ≡ true) × (b ≡ true)

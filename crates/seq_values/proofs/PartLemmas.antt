@@ -1,15 +1,15 @@
 -- How deep a vector or a node is after an item is added, or some are left out.
-use Rattle.std.proofs.Common.{◌≡◌, refl, sym, ap, ◌∙◌, subst, ℕ, zero, suc, ◌+◌, ◌-◌, ◌≤◌, ◌<◌, max, List, [], ◌∷◌, ◌++◌, map, length, take, drop, Bool, true, false, ◌&&◌, arith}
+use Rattle.std.proofs.Common.{◌≡◌, ap, ℕ, zero, suc, ◌+◌, ◌-◌, ◌≤◌, ◌<◌, max, List, [], ◌∷◌, ◌++◌, length, take, drop, arith}
 use Rattle.std.specs.Prelude.{IsTrue}
 use Rattle.std.proofs.lemmas.List.{length-append, length-take, length-drop, take_rest}
 use Rattle.std.proofs.Math.Seq.{take-nil, drop-nil}
-use Rattle.std.proofs.Math.Nat.{le-max_left, le-max_right, max-le}
+use Rattle.std.proofs.Math.Nat.{le-max_left, le-max_right}
 use Rattle.seq_values.specs.declared.value.Value.TheVariants as V
 use Rattle.seq_values.specs.declared.value.Node.TheVariants as N
-use Rattle.seq_values.specs.Layers.{Value, Node}
+use Rattle.seq_values.specs.Layers.{Value}
 use Rattle.seq_values.specs.Depth.{depth, depth_of_all, keep_depth}
 use Rattle.seq_values.specs.WellFormed.{is_well_formed, is_well_formed_node, are_well_formed}
-use Rattle.seq_values.proofs.WellFormedLemmas.{Holds, list_keeps, well_joined, well_front, well_back, one_well, vector_well, vector_items, vector_kept, cons_made, cons_holds, cons_kept, chunk_made, chunk_holds, chunk_kept}
+use Rattle.seq_values.proofs.WellFormedLemmas.{list_keeps, well_joined, well_front, well_back, one_well, vector_well, vector_items, vector_kept, cons_made, cons_holds, cons_kept, chunk_made, chunk_holds, chunk_kept}
 
 pub deepest_joined : (front back : List Value) → depth_of_all (front ++ back) ≡ max (depth_of_all front) (depth_of_all back)
 deepest_joined [] back = omega arith

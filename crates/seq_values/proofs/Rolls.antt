@@ -1,5 +1,5 @@
 -- What is seen of a value of one layer, and how deep it is, by what it holds.
-use Rattle.std.proofs.Common.{◌≡◌, sym, ap, ◌∙◌, ℕ, ◌+◌, max, ℤ, List, map, ◌&&◌}
+use Rattle.std.proofs.Common.{◌≡◌, sym, ap, ◌∙◌, ℕ, max, ℤ, List, map, ◌&&◌}
 use Rattle.seq_values.specs.declared.value.Value.TheVariants as V
 use Rattle.seq_values.specs.declared.value.Node.TheVariants as N
 use Rattle.seq_values.specs.Layers.{fold-roll-Value, fold-roll-Node, fold_out-FnValue, Value, Node, FnValue, Value-F, Node-F}

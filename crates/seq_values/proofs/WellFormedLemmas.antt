@@ -1,5 +1,5 @@
 -- What a well-formed value holds is well formed, and what is made of well-formed values is.
-use Rattle.std.proofs.Common.{◌≡◌, refl, sym, ap, ◌∙◌, subst, ℕ, zero, suc, ◌+◌, ◌≤◌, ◌<◌, max, List, [], ◌∷◌, ◌++◌, map, length, take, drop, Bool, true, false, ◌&&◌, nat_lt, nat_le, nat_eq, ℤ, pos, ◌+ℤ◌, ◌<ℤ◌, int_le, int_lt, IfSome, Some, None, slice_get, Bor, arith}
+use Rattle.std.proofs.Common.{◌≡◌, refl, sym, ap, ◌∙◌, subst, ℕ, zero, suc, ◌+◌, ◌≤◌, ◌<◌, max, List, [], ◌∷◌, ◌++◌, map, length, take, drop, Bool, true, ◌&&◌, nat_lt, nat_le, nat_eq, ℤ, pos, ◌+ℤ◌, ◌<ℤ◌, int_le, int_lt, IfSome, Some, None, slice_get, Bor, arith}
 use Rattle.std.specs.Prelude.{IsTrue}
 use Rattle.std.specs.declared.option.Option.{Option}
 use Rattle.std.specs.Option.{option_copied}
@@ -11,7 +11,7 @@ use Rattle.std.proofs.Math.Nat.{le-max_left, le-max_right, max-le}
 use Rattle.seq_values.specs.declared.value.Value.TheVariants as V
 use Rattle.seq_values.specs.declared.value.Node.TheVariants as N
 use Rattle.seq_values.specs.Layers.{Value, Node, FnValue}
-use Rattle.seq_values.specs.Depth.{Grade, all_right, holding, graded, graded_node, graded_function, depth, depth_of_node, depth_of_function, depth_of_all, keeps_depth, keep_depth}
+use Rattle.seq_values.specs.Depth.{Grade, holding, graded, graded_node, graded_function, depth, depth_of_node, depth_of_function, depth_of_all, keeps_depth, keep_depth}
 use Rattle.seq_values.specs.WellFormedTerms.{takes, is_well_formed_term}
 use Rattle.seq_values.specs.declared.term.Term.{Term}
 use Rattle.seq_values.specs.WellFormed.{Seen, sights, all_stand, ends_cons, ends_chunk, not_empty, seen, seen_node, seen_function, sight_of, binds, is_measured, is_well_formed, is_well_formed_node, is_well_formed_function, are_well_formed}
@@ -276,6 +276,10 @@ vec_seq_at items at kept place h lt = vec_seq_well items place kept lt (vec_seq_
 pub range_begun : (from at end : ℤ) → IsTrue (is_well_formed_node (N.Range from at end)) → int_le from at ≡ true
 range_begun from at end h =
     (and_parts (int_le from at) (int_lt at end) (sym (ap (λ s. s.stands) (seen_range from at end)) ∙ stands_in (seen_node (N.Range from at end)) (graded_node (N.Range from at end)) h)).0
+
+pub range_ends : (from at end : ℤ) → IsTrue (is_well_formed_node (N.Range from at end)) → int_lt at end ≡ true
+range_ends from at end h =
+    (and_parts (int_le from at) (int_lt at end) (sym (ap (λ s. s.stands) (seen_range from at end)) ∙ stands_in (seen_node (N.Range from at end)) (graded_node (N.Range from at end)) h)).1
 
 pub range_well : (from at end : ℤ) → int_le from at ≡ true → at <ℤ end → IsTrue (is_well_formed_node (N.Range from at end))
 range_well from at end b lt =

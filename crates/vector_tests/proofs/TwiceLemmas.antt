@@ -1,7 +1,7 @@
 -- A value twice in a vector.
 use Rattle.std.proofs.Common.{◌≡◌, refl, ℕ, ◌+◌, ◌≤◌, max, List, [], ◌∷◌, ◌∙◌, arith}
 use Rattle.std.specs.Prelude.{IsTrue}
-use Rattle.seq_values.specs.Layers.{Value}
+use Rattle.seq_values.specs.declared.value.Value.{Value}
 use Rattle.seq_values.specs.declared.value.Value.TheVariants as V
 use Rattle.seq_values.specs.Depth.{depth, depth_of_all}
 use Rattle.seq_values.specs.WellFormed.{is_well_formed, are_well_formed}

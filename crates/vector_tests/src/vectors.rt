@@ -152,7 +152,7 @@ fn steps(alloc: Global, mut both: Both, mut seed: u64, count: usize) -> Result<(
 fn windows_of_windows(rt: HostRuntime) -> Result<(), Fail> {
     let alloc = rt.alloc();
     let mut seed = 13u64;
-    for count in [5000u32, 20_000, 40_000, 70_000] {
+    for count in [1500u32, 5000, 10_000, 34_000] {
         let plain = numbers(alloc, count)?;
         let items = counted(alloc, count)?;
         let (both, later) = steps(alloc, Both { items, plain }, seed, 500)?;

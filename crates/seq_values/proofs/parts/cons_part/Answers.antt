@@ -1,4 +1,4 @@
-use Rattle.std.proofs.Common.{◌≡◌, ◌≤◌, ◌-◌, ap, arith}
+use Rattle.std.proofs.Common.{ap, arith}
 use Rattle.seq_values.specs.Depth.{depth_of_all}
 use Rattle.seq_values.proofs.PartLemmas.{cons_part_small, cons_part_within}
 use Rattle.seq_values.proofs.parts.cons_part.Goals as goal
