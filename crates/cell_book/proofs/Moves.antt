@@ -6,6 +6,7 @@ use Rattle.seq_base.specs.declared.thrown.Thrown.{Thrown}
 use Rattle.seq_values.specs.declared.value.Value.{Value}
 use Rattle.seq_values.specs.declared.term.Term.{Term}
 use Rattle.seq_values.specs.declared.words.Kind.{Kind}
+use Rattle.seq_values.specs.declared.words.Kind.TheVariants.{Lazy, Future}
 use Rattle.cell_book.specs.declared.answers.Look.TheVariants as L
 use Rattle.cell_book.specs.declared.answers.MakeRefusal.TheVariants as M
 use Rattle.cell_book.specs.declared.answers.ClaimRefusal.{ClaimRefusal}
@@ -57,7 +58,7 @@ module _ (a : Account) (number claim : ℕ) where
   abbrev with_begun : Account
   with_begun = record a { forms = a.forms ++ begun_form number claim ∷ [] }
 
-  begun_reaches : Reaches (glimpse a) (glimpse with_begun)
+  pub begun_reaches : Reaches (glimpse a) (glimpse with_begun)
   begun_reaches = record { limit = refl; cells = λ id p e. (p, e, stays_same p); forms = λ k f e. (f, get_longer a.forms k (begun_form number claim) f e, form_stays_same f); spent = λ e. e; gave_up = λ e. e }
 
   begun_holds : (c : ℕ) → c ≢ claim → Holds c (glimpse a) (glimpse with_begun)
@@ -109,7 +110,7 @@ made_asked : (a : Account) (by : Duty) (t : Term) (k : Kind) (c id : ℕ) → as
 made_asked a by t k c zero = refl
 made_asked a by t k c (suc i) = asked_push c a.cells (new_cell a by t k) i refl
 
-made_reaches : (a : Account) (by : Duty) (t : Term) (k : Kind) → Reaches (glimpse a) (glimpse (record a { cells = a.cells ++ new_cell a by t k ∷ [] }))
+pub made_reaches : (a : Account) (by : Duty) (t : Term) (k : Kind) → Reaches (glimpse a) (glimpse (record a { cells = a.cells ++ new_cell a by t k ∷ [] }))
 made_reaches a by t k = record { limit = refl; cells = λ id p e. (p, cell_longer a (new_cell a by t k) id p e, stays_same p); forms = λ i f e. (f, e, form_stays_same f); spent = λ e. e; gave_up = λ e. e }
 
 made_holds : (a : Account) (by : Duty) (t : Term) (k : Kind) (c : ℕ) → Holds c (glimpse a) (glimpse (record a { cells = a.cells ++ new_cell a by t k ∷ [] }))
@@ -165,7 +166,7 @@ module _ (a : Account) (i c : ℕ) (p q : Cell) (at : slice_get a.cells i ≡ So
   written_other zero n = refl
   written_other (suc j) n = set_other a.cells i j q (λ e. n (ap suc e))
 
-  written_reaches : Stays p q → Reaches (glimpse a) (glimpse (with_cell a (suc i) q))
+  pub written_reaches : Stays p q → Reaches (glimpse a) (glimpse (with_cell a (suc i) q))
   written_reaches s = record { limit = refl; cells = λ id x f. cell id x f (same_or id (suc i)); forms = λ k f e. (f, e, form_stays_same f); spent = λ e. e; gave_up = λ e. e }
     where
       cell : (id : ℕ) (x : Cell) → cell_at a id ≡ Some x → (id ≡ suc i) ⊎ (id ≢ suc i) → (y : Cell) × (cell_at (with_cell a (suc i) q) id ≡ Some y) × Stays x y
@@ -224,7 +225,7 @@ asked_own : (c : ℕ) (xs : List Attempt) (x : Attempt) → x.asker ≡ Some c �
 asked_own c xs x e = asked_more c xs x ∙ ap (λ (t : Bool). asked_by c xs ++ cond t (x ∷ []) []) (ap (is_asker c) e ∙ eq-eqb c c refl)
 
 -- a claim is opened
-claimed_stays : (p : Cell) (claim : ℕ) (asker : Option ℕ) → p.state ≡ S.Empty → Stays p (claimed p claim asker)
+pub claimed_stays : (p : Cell) (claim : ℕ) (asker : Option ℕ) → p.state ≡ S.Empty → Stays p (claimed p claim asker)
 claimed_stays p claim asker s = record {
   term = refl;
   kind = refl;
@@ -279,7 +280,7 @@ forcing_done c v e = cc
 forcing_failed : (c : ℕ) (w : Thrown) → S.Forcing c ≡ S.Failed w → ⊥
 forcing_failed c w e = cc
 
-after_stays : (p : Cell) (claim : ℕ) (asker : Option ℕ) (past : List Attempt) (end : ClaimEnd) (state : State) → HasOpen p claim asker past → Stays p (after_claim p claim asker past end state)
+pub after_stays : (p : Cell) (claim : ℕ) (asker : Option ℕ) (past : List Attempt) (end : ClaimEnd) (state : State) → HasOpen p claim asker past → Stays p (after_claim p claim asker past end state)
 after_stays p claim asker past end state h = record {
   term = refl;
   kind = refl;
@@ -456,6 +457,19 @@ ends_shown a b w end state value id kind term place h = at id (subst (λ (x : Pl
     at (suc i) (p, asker, past, e, o, is) =
         let q = after_claim p w.claim asker past end (state p.kind) in
         (q, ap (λ (z : Account). cell_at z (suc i)) is ∙ set_here a.cells i p q e, (p.kind, refl))
+
+-- the cell after its claim ended, by the cell before
+pub ends_cell : (a b : Account) (w : Duty) (end : ClaimEnd) (state : Kind → State) (value : Option Value) (id : ℕ) (kind : Kind) (term : Term) (p : Cell) → w.place ≡ P.Part id kind term → Ends a w end state value b → cell_at a id ≡ Some p → (asker : Option ℕ) × (past : List Attempt) × HasOpen p w.claim asker past × (cell_at b id ≡ Some (after_claim p w.claim asker past end (state p.kind)))
+ends_cell a b w end state value id kind term p place h g = at id (subst (λ (x : Place). Ends a (record { place = x; claim = w.claim; outcomes = w.outcomes }) end state value b) place h) g
+  where
+    at : (j : ℕ) → Ends a (record { place = P.Part j kind term; claim = w.claim; outcomes = w.outcomes }) end state value b → cell_at a j ≡ Some p → (asker : Option ℕ) × (past : List Attempt) × HasOpen p w.claim asker past × (cell_at b j ≡ Some (after_claim p w.claim asker past end (state p.kind)))
+    at zero (q, asker, past, e, o, is) f = absurd (none-some q e)
+    at (suc i) (q, asker, past, e, o, is) f =
+        let same : q ≡ p = same_Some q p (sym e ∙ f) in
+        (asker, past, subst (λ (x : Cell). HasOpen x w.claim asker past) same o, ap (λ (z : Account). cell_at z (suc i)) is ∙ (set_here a.cells i q (after_claim q w.claim asker past end (state q.kind)) e ∙ ap (λ (x : Cell). Some (after_claim x w.claim asker past end (state x.kind))) same))
+
+pub fails_shown : (a b : Account) (w : Duty) (why : Thrown) (id : ℕ) (kind : Kind) (term : Term) (p : Cell) → w.place ≡ P.Part id kind term → Fails a w why b → cell_at a id ≡ Some p → shown (cell_at b id) ≡ shown_state (failed_state why p.kind)
+fails_shown a b w why id kind term p place h g = ap shown ((ends_cell a b w (E.Error why) (failed_state why) None id kind term p place h g).3)
 
 pub finishes_shown : (a b : Account) (w : Duty) (v : Value) (id : ℕ) (kind : Kind) (term : Term) → w.place ≡ P.Part id kind term → Finishes a w v b → shown (cell_at b id) ≡ L.Done v
 finishes_shown a b w v id kind term place h =

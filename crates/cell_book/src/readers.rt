@@ -1,0 +1,147 @@
+//! Reading a book. None of these takes memory.
+ghost use Rattle.std.specs.Prelude.{◌≡◌, ◌≢◌, ◌<◌, ℕ, Some, length, slice_get, option_copied, option_map};
+ghost use Rattle.cell_book.specs.declared.cell.Attempt.{Attempt};
+ghost use Rattle.cell_book.specs.declared.cell.Form.{Form as Begun};
+ghost use Rattle.cell_book.specs.Account.{cell_at};
+ghost use Rattle.cell_book.specs.Readers.{maker_at, attempt_in, value_in, IsLowestOpen, IsAskerOf, FindsForm, IsFormClaim, IsFormValue};
+
+use crate::book::{Book, place_of};
+use crate::cell::{Cell, ClaimEnd, Form, State};
+use crate::claims::Spot;
+use seq_values::{CellId, Value};
+
+impl Book {
+    /// How many parts it may have.
+    pub fn limit(&self) -> u32
+        ensures { result ≡ self.now.limit }
+    {
+        self.limit
+    }
+
+    /// Whether a make was refused because the limit was reached.
+    pub fn is_spent(&self) -> bool
+        ensures { result ≡ self.now.spent }
+    {
+        self.spent
+    }
+
+    /// Whether a work was given up.
+    pub fn has_given_up(&self) -> bool
+        ensures { result ≡ self.now.gave_up }
+    {
+        self.gave_up
+    }
+
+    /// The open claim with the lowest number, and `None` exactly where none is open.
+    #[tactic(auto, using(crate::proofs::Finding::lowest_open))]
+    pub fn open_claim(&self) -> Option<u128>
+        ensures { IsLowestOpen self.now result }
+    {
+        self.claims.lowest()
+    }
+
+    /// The claim that made a part, and how many parts it had made with it; `None` exactly for a number not made.
+    pub fn maker(&self, id: CellId) -> Option<(u128, u32)>
+        ensures { result ≡ option_map maker_at (cell_at self.now id) }
+    {
+        match self.cells.get(place_of(id)) {
+            None => None,
+            Some(cell) => Some((cell.maker, cell.ordinal)),
+        }
+    }
+
+    /// The claim that asked for this one, if one did; `None` exactly for a number that is no claim.
+    #[tactic(auto, using(crate::proofs::Finding::none_asks, crate::proofs::Finding::spotted_form, crate::proofs::Finding::form_asks))]
+    pub fn asker(&self, claim: u128) -> Option<Option<u128>>
+        ensures { IsAskerOf self.now claim result }
+    {
+        match self.claims.spot(claim) {
+            None => None,
+            Some(Spot::Form { at }) => Some(self.forms[at].attempt.asker),
+            Some(Spot::Part { cell, at }) => Some(asker_at(&self.cells[place_of(cell)], at)),
+        }
+    }
+
+    /// The claim on a part at a place among those on it, with how it ended; `None` exactly where there is none.
+    pub fn attempt(&self, id: CellId, at: usize) -> Option<(u128, ClaimEnd)>
+        ensures { result ≡ attempt_in (cell_at self.now id) at }
+    {
+        let attempt = self.cells.get(place_of(id))?.attempts.get(at)?;
+        Some((attempt.claim, attempt.end))
+    }
+
+    /// The value of a part, and `None` exactly where it isn't done.
+    pub fn value(&self, id: CellId) -> Option<&Value>
+        ensures { option_copied result ≡ value_in (cell_at self.now id) }
+    {
+        match &self.cells.get(place_of(id))?.state {
+            State::Done(value) => Some(value),
+            _ => None,
+        }
+    }
+
+    /// The claim on a form, with how it ended; `None` exactly for a form not begun.
+    pub fn form_claim(&self, form: u32) -> Option<(u128, ClaimEnd)>
+        ensures { IsFormClaim self.now form result }
+    {
+        match find_form(&self.forms, form) {
+            Some(form) => Some((form.attempt.claim, form.attempt.end)),
+            None => None,
+        }
+    }
+
+    /// The value that a form gave, and `None` exactly where it gave none.
+    pub fn form_value(&self, form: u32) -> Option<&Value>
+        ensures { IsFormValue self.now form (option_copied result) }
+    {
+        match find_form(&self.forms, form) {
+            None => None,
+            Some(form) => match &form.value {
+                Some(value) => Some(value),
+                None => None,
+            },
+        }
+    }
+}
+
+/// The form with a number: the one at that place, or the first.
+#[tactic(auto, using(crate::proofs::Finding::finds_at, crate::proofs::Finding::finds_first))]
+fn find_form(forms: &Vec<Form>, number: u32) -> Option<&Form>
+    ensures { FindsForm forms.now.items number (option_copied result) }
+{
+    if number > 0 {
+        if let Some(form) = forms.get(number as usize - 1) {
+            if form.number == number {
+                return Some(form);
+            }
+        }
+    }
+    forms.get(first_numbered(forms, number))
+}
+
+/// The place of the first form with a number, or how many forms there are.
+#[tactic(auto, using(crate::proofs::Finding::forms_next, crate::proofs::Finding::forms_found, crate::proofs::Finding::forms_past))]
+fn first_numbered(forms: &Vec<Form>, number: u32) -> usize
+    ensures before { (k : ℕ) (f : Begun) → k < result → slice_get forms.now.items k ≡ Some f → f.number ≢ number }
+    ensures at { (f : Begun) → slice_get forms.now.items result ≡ Some f → f.number ≡ number }
+{
+    let mut at = 0;
+    while at < forms.len() {
+        if forms[at].number == number {
+            return at;
+        }
+        at += 1;
+    }
+    at
+}
+
+/// Who asked for the claim at a place among those on a part.
+fn asker_at(cell: &Cell, at: usize) -> Option<u128>
+    requires { at < length cell.now.attempts }
+    ensures { (x : Attempt) → slice_get cell.now.attempts at ≡ Some x → result ≡ x.asker }
+{
+    match cell.attempts.get(at) {
+        Some(attempt) => attempt.asker,
+        None => unreachable!(),
+    }
+}
