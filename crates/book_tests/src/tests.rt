@@ -186,9 +186,6 @@ fn a_form_after_a_thousand_claims(rt: HostRuntime) -> Result<(), Fail> {
     assert!(rt; book.maker(last) == Some((0, 1_001)));
     assert!(rt; book.attempt(last, 0) == Some((1_001, ClaimEnd::Value)));
     assert!(rt; book.attempt(last, 1).is_none());
-    assert!(rt; book.asker(1_001) == Some(Some(0)));
-    assert!(rt; book.asker(1_002) == Some(None));
-    assert!(rt; book.asker(1_004).is_none());
     assert!(rt; matches!(book.value(last), Some(Value::Int(7))));
     assert!(rt; book.form_claim(2) == Some((1_002, ClaimEnd::GivenUp)));
     assert!(rt; book.form_claim(4).is_none());

@@ -100,3 +100,7 @@ form_is a k number claim end value old new at g w =
     let l = slice_get_within a.forms k (begun_form number claim) at in
     let same : begun_form number claim ≡ old = same_Some (begun_form number claim) old (sym at ∙ read_at a.forms k old l g) in
     w ∙ ap (λ (x : Form). record x { attempt = record x.attempt { end = end }; value = value }) (sym same)
+
+-- the place of a cell that is forced
+pub forced_within : (a : Account) (id i claim : ℕ) → i + 1 ≡ id → ((p : Cell) × (asker : Option ℕ) × (past : List Attempt) × (cell_at a id ≡ Some p) × HasOpen p claim asker past) → i < length a.cells
+forced_within a id i claim e (p, asker, past, at, h) = slice_get_within a.cells i p (at_place a id i p e at)

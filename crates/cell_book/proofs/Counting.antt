@@ -21,7 +21,7 @@ pub sum_set : {X : Type 0} (f : X → ℕ) (xs : List X) (i : ℕ) (p q : X) →
 sum_set {X} f xs i p q at =
     subst (λ (x : X). sum_by f (slice_set xs i q) + f x ≡ sum_by f xs + f q) (get_or_from_slice_get xs i p p at) (sum_by-set f xs i q p (slice_get_within xs i p at))
 
-one_most : (b : Bool) → cond b 1 0 ≤ 1
+pub one_most : (b : Bool) → cond b 1 0 ≤ 1
 one_most true = omega arith
 one_most false = omega arith
 

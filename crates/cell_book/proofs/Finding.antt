@@ -2,6 +2,7 @@
 use Rattle.std.proofs.Common.{◌≡◌, ◌≢◌, ℕ, zero, suc, ◌+◌, ◌<◌, ◌≤◌, Bool, true, false, cond, List, [], ◌∷◌, length, get_or, Some, None, Option, refl, ap, sym, subst, ◌∙◌, arith, ◌⊎◌, inl, inr}
 use Rattle.std.specs.Prelude.{slice_get, option_map}
 use Rattle.std.proofs.lemmas.Option.{none-some, same_Some, slice_get_within, slice_get_read}
+use Rattle.seq_values.specs.declared.value.Value.{Value}
 use Rattle.cell_book.specs.declared.cell.Attempt.{Attempt}
 use Rattle.cell_book.specs.declared.cell.Cell.{Cell}
 use Rattle.cell_book.specs.declared.cell.Form.{Form}
@@ -10,7 +11,7 @@ use Rattle.cell_book.specs.declared.claims.Spot.TheVariants as At
 use Rattle.cell_book.specs.declared.claims.Entry.{Entry}
 use Rattle.cell_book.specs.Account.{Account, cell_at, opens, IsFresh}
 use Rattle.cell_book.specs.Registers.{spot_of, EndedBefore, IsLowest, WasOpened, IsRegistered}
-use Rattle.cell_book.specs.Readers.{IsLowestOpen, IsClaim, IsAskerOf, FindsForm}
+use Rattle.cell_book.specs.Readers.{IsLowestOpen, IsClaim, IsAskerOf, FindsForm, IsFormClaim, form_value_in, IsFormValue}
 use Rattle.cell_book.proofs.Lists.{get_within, same_or, below_or}
 use Rattle.cell_book.proofs.Opening.{fresh_opens}
 
@@ -32,13 +33,13 @@ pub forms_past : (fs : List Form) (n number : ℕ) → length fs ≤ n → (f : 
 forms_past fs n number h f e = let w = slice_get_within fs n f e in absurd (omega arith)
 
 pub finds_at : (fs : List Form) (k number : ℕ) (f : Form) → slice_get fs k ≡ Some f → f.number ≡ number → FindsForm fs number (Some f)
-finds_at fs k number f e n = (n, k, e)
+finds_at fs k number f e n = (n, (k, e))
 
 pub finds_first : (fs : List Form) (k number : ℕ) → ((j : ℕ) (f : Form) → j < k → slice_get fs j ≡ Some f → f.number ≢ number) → ((f : Form) → slice_get fs k ≡ Some f → f.number ≡ number) → FindsForm fs number (slice_get fs k)
 finds_first fs k number b h = at (slice_get fs k) refl
   where
     at : (o : Option Form) → slice_get fs k ≡ o → FindsForm fs number o
-    at (Some f) e = (h f e, k, e)
+    at (Some f) e = (h f e, (k, e))
     at None e = λ j f g. b j f (below j f g (below_or j k)) g
       where
         below : (j : ℕ) (f : Form) → slice_get fs j ≡ Some f → (j < k) ⊎ (k ≤ j) → j < k
@@ -46,6 +47,12 @@ finds_first fs k number b h = at (slice_get fs k) refl
         below j f g (inr l) =
             let w = slice_get_within fs j f g in
             let x = get_within fs k (omega arith) in absurd (none-some x.0 (sym e ∙ x.1))
+
+pub claim_found : (a : Account) (number : ℕ) (f : Form) → FindsForm a.forms number (Some f) → IsFormClaim a number (Some (f.attempt.claim, f.attempt.end))
+claim_found a number f h = (Some f, h, refl)
+
+pub value_found : (a : Account) (number : ℕ) (found : Option Form) (answer : Option Value) → FindsForm a.forms number found → answer ≡ form_value_in found → IsFormValue a number answer
+value_found a number found answer h e = (found, h, e)
 
 -- the lowest open claim
 pub lowest_open : (a : Account) (claims : List Entry) (answer : Option ℕ) → IsRegistered a claims → ((c : ℕ) → length claims ≤ c → IsFresh a c) → IsLowest claims answer → IsLowestOpen a answer
@@ -111,4 +118,4 @@ part_tried a claims c id i k p r e s g =
     let n : id ≡ suc i = omega arith in
     let here : slice_get a.cells i ≡ Some w.0 = subst (λ m. cell_at a m ≡ Some w.0) n w.2 in
     let same : w.0 ≡ p = same_Some w.0 p (sym here ∙ slice_get_read a.cells (length a.cells) i p refl (slice_get_within a.cells i w.0 here) g) in
-    (w.1, ap (λ (q : Cell). slice_get q.attempts k) (sym same) ∙ w.3, w.1, (w.4, inr (id, w.0, k, w.2, w.3)), refl)
+    (w.1, ap (λ (q : Cell). slice_get q.attempts k) (sym same) ∙ w.3, (w.1, (w.4, inr (id, w.0, k, w.2, w.3)), refl))

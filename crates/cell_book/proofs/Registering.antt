@@ -104,14 +104,14 @@ get_closed (suc n) (y ∷ xs) zero x e = inr ((λ h. absurd cc), e)
 get_closed (suc n) (y ∷ xs) (suc m) x e = further (get_closed n xs m x e)
   where
     further : ((m ≡ n) × (z : Entry) × (slice_get xs m ≡ Some z) × (x ≡ record z { ended = true })) ⊎ ((m ≢ n) × (slice_get xs m ≡ Some x)) → ((suc m ≡ suc n) × (z : Entry) × (slice_get xs m ≡ Some z) × (x ≡ record z { ended = true })) ⊎ ((suc m ≢ suc n) × (slice_get xs m ≡ Some x))
-    further (inl t) = inl (ap suc t.0, t.1)
+    further (inl t) = inl (ap suc t.0, t.1, t.2, t.3)
     further (inr t) = inr ((λ h. let f : m ≡ n = cc in t.0 f), t.1)
 
 pub closed_before : (n : ℕ) (xs : List Entry) (low : ℕ) → FirstOpen xs low → EndedBefore (closed_at n xs) low
 closed_before n xs low f m x h e = at (get_closed n xs m x e)
   where
     at : ((m ≡ n) × (y : Entry) × (slice_get xs m ≡ Some y) × (x ≡ record y { ended = true })) ⊎ ((m ≢ n) × (slice_get xs m ≡ Some x)) → x.ended ≡ true
-    at (inl t) = ap (λ (z : Entry). z.ended) t.1.2
+    at (inl t) = ap (λ (z : Entry). z.ended) t.3
     at (inr t) = f.before m x h t.1
 
 -- where a claim was opened stays

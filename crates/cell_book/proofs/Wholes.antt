@@ -25,7 +25,7 @@ use Rattle.cell_book.proofs.Opening.{begun_opens, made_opens, claimed_opens, end
 use Rattle.cell_book.proofs.Keeping.{begun_kept, made_kept, claimed_kept, ended_kept, form_kept}
 use Rattle.cell_book.proofs.Moves.{begun_reaches, made_reaches, written_reaches, claimed_stays, after_stays, form_onward}
 use Rattle.cell_book.proofs.Registering.{closed_long, same_registered, opened_registered, closed_registered}
-use Rattle.cell_book.proofs.Counting.{none_counted, more_counted, made_counted, claimed_counted, ended_counted, none_past, made_past, claimed_past, lowered_past}
+use Rattle.cell_book.proofs.Counting.{none_counted, more_counted, made_counted, claimed_counted, ended_counted, none_past, made_past, claimed_past, lowered_past, room_for}
 use Rattle.cell_book.proofs.Calls.{at_place, read_at, end_is, form_is}
 use Rattle.cell_book.proofs.Stepping.{new_sound}
 
@@ -167,3 +167,7 @@ pub form_whole_as : (a : Account) (cm fm : List ℕ) (settled settled2 : List Va
     new ≡ record old { attempt = record old.attempt { end = end }; value = value } → settled2 ≡ take k settled → claims2 ≡ closed_at claim claims → IsWhole (record a { forms = slice_set a.forms k new }) cm fm settled2 claims2 first realised failed
 form_whole_as a cm fm settled settled2 claims claims2 first realised failed k claim end value old new w (number, at) n g e s c =
     subst (λ (z : Form × List Value × List Entry). IsWhole (record a { forms = slice_set a.forms k z.0 }) cm fm z.1 z.2 first realised failed) (λ j. (sym (form_is a k number claim end value old new at g e) j, sym s j, sym c j)) (form_whole a cm fm settled claims first realised failed k number claim end value w at n)
+
+-- there is room in the counts
+pub forced_room : (a : Account) (cm fm : List ℕ) (settled : List Value) (claims : List Entry) (first realised failed id i claim : ℕ) → IsWhole a cm fm settled claims first realised failed → i + 1 ≡ id → ((p : Cell) × (asker : Option ℕ) × (past : List Attempt) × (cell_at a id ≡ Some p) × HasOpen p claim asker past) → realised < a.limit
+forced_room a cm fm settled claims first realised failed id i claim w e (p, asker, past, at, h) = room_for a.cells (length claims) realised failed i p a.limit w.counted w.kept.sound.within (at_place a id i p e at) (ap is_done h.state)

@@ -426,6 +426,9 @@ impl Book {
         requires ended { is_open end ≡ false }
         ensures { (p : Part) (asker : Option ℕ) (past : List Record) → cell_at self.old id ≡ Some p → HasOpen p claim asker past → self.new ≡ with_cell self.old id (after_claim p claim asker past end state) }
     {
+        // The limit bounds the parts, and the number of claims the errors.
+        let _limit = self.limit;
+        let _claims = self.claims.len();
         let at = place_of(id);
         self.realised += state.realised();
         self.failed += end.failed();

@@ -1,13 +1,11 @@
 //! Reading a book. None of these takes memory.
-ghost use Rattle.std.specs.Prelude.{◌≡◌, ◌≢◌, ◌<◌, ℕ, Some, length, slice_get, option_copied, option_map};
-ghost use Rattle.cell_book.specs.declared.cell.Attempt.{Attempt};
+ghost use Rattle.std.specs.Prelude.{◌≡◌, ◌≢◌, ◌<◌, ℕ, Some, slice_get, option_copied, option_map};
 ghost use Rattle.cell_book.specs.declared.cell.Form.{Form as Begun};
 ghost use Rattle.cell_book.specs.Account.{cell_at};
-ghost use Rattle.cell_book.specs.Readers.{maker_at, attempt_in, value_in, IsLowestOpen, IsAskerOf, FindsForm, IsFormClaim, IsFormValue};
+ghost use Rattle.cell_book.specs.Readers.{maker_at, attempt_in, value_in, IsLowestOpen, FindsForm, IsFormClaim, form_value_in, IsFormValue};
 
 use crate::book::{Book, place_of};
-use crate::cell::{Cell, ClaimEnd, Form, State};
-use crate::claims::Spot;
+use crate::cell::{ClaimEnd, Form, State};
 use seq_values::{CellId, Value};
 
 impl Book {
@@ -50,18 +48,6 @@ impl Book {
         }
     }
 
-    /// The claim that asked for this one, if one did; `None` exactly for a number that is no claim.
-    #[tactic(auto, using(crate::proofs::Finding::none_asks, crate::proofs::Finding::spotted_form, crate::proofs::Finding::form_asks))]
-    pub fn asker(&self, claim: u128) -> Option<Option<u128>>
-        ensures { IsAskerOf self.now claim result }
-    {
-        match self.claims.spot(claim) {
-            None => None,
-            Some(Spot::Form { at }) => Some(self.forms[at].attempt.asker),
-            Some(Spot::Part { cell, at }) => Some(asker_at(&self.cells[place_of(cell)], at)),
-        }
-    }
-
     /// The claim on a part at a place among those on it, with how it ended; `None` exactly where there is none.
     pub fn attempt(&self, id: CellId, at: usize) -> Option<(u128, ClaimEnd)>
         ensures { result ≡ attempt_in (cell_at self.now id) at }
@@ -81,6 +67,7 @@ impl Book {
     }
 
     /// The claim on a form, with how it ended; `None` exactly for a form not begun.
+    #[tactic(auto, using(crate::proofs::Finding::claim_found))]
     pub fn form_claim(&self, form: u32) -> Option<(u128, ClaimEnd)>
         ensures { IsFormClaim self.now form result }
     {
@@ -91,16 +78,21 @@ impl Book {
     }
 
     /// The value that a form gave, and `None` exactly where it gave none.
+    #[tactic(auto, using(crate::proofs::Finding::value_found))]
     pub fn form_value(&self, form: u32) -> Option<&Value>
         ensures { IsFormValue self.now form (option_copied result) }
     {
-        match find_form(&self.forms, form) {
-            None => None,
-            Some(form) => match &form.value {
-                Some(value) => Some(value),
-                None => None,
-            },
-        }
+        value_of(find_form(&self.forms, form))
+    }
+}
+
+/// The value of a form, if there is one and it gave one.
+fn value_of(form: Option<&Form>) -> Option<&Value>
+    ensures { option_copied result ≡ form_value_in (option_copied form.entry) }
+{
+    match form {
+        None => None,
+        Some(form) => form.value.as_ref(),
     }
 }
 
@@ -133,15 +125,4 @@ fn first_numbered(forms: &Vec<Form>, number: u32) -> usize
         at += 1;
     }
     at
-}
-
-/// Who asked for the claim at a place among those on a part.
-fn asker_at(cell: &Cell, at: usize) -> Option<u128>
-    requires { at < length cell.now.attempts }
-    ensures { (x : Attempt) → slice_get cell.now.attempts at ≡ Some x → result ≡ x.asker }
-{
-    match cell.attempts.get(at) {
-        Some(attempt) => attempt.asker,
-        None => unreachable!(),
-    }
 }

@@ -1,4 +1,4 @@
-use Rattle.std.proofs.Common.{refl, subst, sym, ◌×◌}
+use Rattle.std.proofs.Common.{refl, subst, sym}
 use Rattle.cell_book.specs.Account.{Account, IsSound}
 use Rattle.cell_book.specs.Glimpses.{glimpse}
 use Rattle.book_tests.proofs.Lending.{fits_self}
