@@ -1,5 +1,5 @@
 //! The shared book and its passes.
-ghost use Rattle.std.specs.Prelude.{◌≡◌, ◌⊎◌, ◌<◌, ℕ, false, true, [], ◌++◌, IfOk};
+ghost use Rattle.std.specs.Prelude.{◌≡◌, ◌⊎◌, ◌<◌, ℕ, false, true, [], ◌∷◌, ◌++◌, Some, IfOk};
 ghost use Rattle.cell_shared.specs.Growing.{fresh, counted, Grows};
 ghost use Rattle.cell_book.specs.Glimpses.{glimpse, Onward};
 ghost use Rattle.cell_shared.specs.Known.{known};
@@ -10,7 +10,7 @@ use crate::viewed::Viewed;
 use atomic_table::Table;
 use cell_book::{Book, CellLaw};
 use seq_vector::NoMemory;
-use std::alloc::Global;
+use std::alloc::{AllocError, Global};
 use std::marker::Model;
 use std::sync::Wait;
 
@@ -52,6 +52,15 @@ impl<L: CellLaw> Model for SharedBook<L> {
     ghost invariant = { λ s. s.table.shared.table_id.words ≡ 1 };
 }
 
+/// The one slot, with the book in it.
+fn slot_of(alloc: Global, book: Book) -> Result<Vec<Option<Book>>, AllocError>
+    ensures { IfOk result (λ slots. slots.items ≡ Some book ∷ []) }
+{
+    let mut slots = Vec::new(alloc);
+    slots.push(Some(book))?;
+    Ok(slots)
+}
+
 impl<L: CellLaw> SharedBook<L> {
     /// A book with no cell and no claim, which may have so many cells, and its leading pass, which alone may begin forms.
     pub fn new(alloc: Global, law: L, cells: u32) -> Result<(SharedBook<L>, Pass), NoMemory>
@@ -59,10 +68,7 @@ impl<L: CellLaw> SharedBook<L> {
         ensures { IfOk result (λ r. (r.0.law ≡ law) × (r.1 ≡ known r.0.table true (fresh cells) [])) }
     {
         let book = Book::new(alloc, cells)?;
-        let Ok(mut slots) = Vec::with_capacity(alloc, 1) else {
-            return Err(NoMemory);
-        };
-        let Ok(()) = slots.push(Some(book)) else {
+        let Ok(slots) = slot_of(alloc, book) else {
             return Err(NoMemory);
         };
         let start = Start { law, limit: cells };
