@@ -6,6 +6,7 @@ use Rattle.seq_base.specs.declared.thrown.Thrown.{Thrown}
 use Rattle.seq_values.specs.declared.value.Value.{Value}
 use Rattle.seq_values.specs.declared.term.Term.{Term}
 use Rattle.seq_values.specs.declared.words.Kind.{Kind}
+use Rattle.seq_values.specs.declared.words.Kind.TheVariants.{Lazy, Future}
 use Rattle.cell_book.specs.declared.answers.Look.TheVariants as L
 use Rattle.cell_book.specs.declared.answers.MakeRefusal.TheVariants as M
 use Rattle.cell_book.specs.declared.answers.ClaimRefusal.{ClaimRefusal}
@@ -456,6 +457,19 @@ ends_shown a b w end state value id kind term place h = at id (subst (λ (x : Pl
     at (suc i) (p, asker, past, e, o, is) =
         let q = after_claim p w.claim asker past end (state p.kind) in
         (q, ap (λ (z : Account). cell_at z (suc i)) is ∙ set_here a.cells i p q e, (p.kind, refl))
+
+-- the cell after its claim ended, by the cell before
+pub ends_cell : (a b : Account) (w : Duty) (end : ClaimEnd) (state : Kind → State) (value : Option Value) (id : ℕ) (kind : Kind) (term : Term) (p : Cell) → w.place ≡ P.Part id kind term → Ends a w end state value b → cell_at a id ≡ Some p → (asker : Option ℕ) × (past : List Attempt) × HasOpen p w.claim asker past × (cell_at b id ≡ Some (after_claim p w.claim asker past end (state p.kind)))
+ends_cell a b w end state value id kind term p place h g = at id (subst (λ (x : Place). Ends a (record { place = x; claim = w.claim; outcomes = w.outcomes }) end state value b) place h) g
+  where
+    at : (j : ℕ) → Ends a (record { place = P.Part j kind term; claim = w.claim; outcomes = w.outcomes }) end state value b → cell_at a j ≡ Some p → (asker : Option ℕ) × (past : List Attempt) × HasOpen p w.claim asker past × (cell_at b j ≡ Some (after_claim p w.claim asker past end (state p.kind)))
+    at zero (q, asker, past, e, o, is) f = absurd (none-some q e)
+    at (suc i) (q, asker, past, e, o, is) f =
+        let same : q ≡ p = same_Some q p (sym e ∙ f) in
+        (asker, past, subst (λ (x : Cell). HasOpen x w.claim asker past) same o, ap (λ (z : Account). cell_at z (suc i)) is ∙ (set_here a.cells i q (after_claim q w.claim asker past end (state q.kind)) e ∙ ap (λ (x : Cell). Some (after_claim x w.claim asker past end (state x.kind))) same))
+
+pub fails_shown : (a b : Account) (w : Duty) (why : Thrown) (id : ℕ) (kind : Kind) (term : Term) (p : Cell) → w.place ≡ P.Part id kind term → Fails a w why b → cell_at a id ≡ Some p → shown (cell_at b id) ≡ shown_state (failed_state why p.kind)
+fails_shown a b w why id kind term p place h g = ap shown ((ends_cell a b w (E.Error why) (failed_state why) None id kind term p place h g).3)
 
 pub finishes_shown : (a b : Account) (w : Duty) (v : Value) (id : ℕ) (kind : Kind) (term : Term) → w.place ≡ P.Part id kind term → Finishes a w v b → shown (cell_at b id) ≡ L.Done v
 finishes_shown a b w v id kind term place h =

@@ -1,6 +1,6 @@
 -- What each step tells of a whole book: how often claims are open, that it stays sound, and that the work given is open and new.
-use Rattle.std.proofs.Common.{◌≡◌, ℕ, zero, suc, ◌+◌, ◌-◌, Bool, true, false, List, length, Some, None, Option, Ok, Err, refl, ap, sym, subst, ◌∙◌, arith, inl, inr}
-use Rattle.std.specs.Prelude.{slice_get, IfOk, IfErr}
+use Rattle.std.proofs.Common.{◌≡◌, ℕ, zero, suc, ◌+◌, ◌-◌, Bool, true, false, cond, List, length, Some, None, Option, Ok, Err, refl, ap, sym, subst, ◌∙◌, arith, inl, inr}
+use Rattle.std.specs.Prelude.{slice_get, IfOk, IfErr, IfSome}
 use Rattle.std.proofs.lemmas.Option.{none-some}
 use Rattle.seq_base.specs.declared.thrown.Thrown.{Thrown}
 use Rattle.seq_values.specs.declared.value.Value.{Value}
@@ -16,9 +16,9 @@ use Rattle.cell_book.specs.declared.cell.Attempt.{Attempt}
 use Rattle.cell_book.specs.declared.cell.Cell.{Cell}
 use Rattle.cell_book.specs.declared.work.Place.{Place}
 use Rattle.cell_book.specs.declared.work.Place.TheVariants as P
-use Rattle.cell_book.specs.Account.{Account, Duty, cell_at, is_open, forces, opens, IsSound}
-use Rattle.cell_book.specs.Steps.{begun_form, claimed, BeginAnswer, MakeAnswer, ClaimAnswer, HasOpen, Begins, Makes, Claims, Opens, Ends, Finishes, Fails, GivesUp, failed_state, IsOpenIn}
-use Rattle.cell_book.specs.Glimpses.{glimpse, Glimpse, Sees, SeesPlace, SeesSpent, SeesGaveUp, IsOpen, at_claim, after_open, after_end}
+use Rattle.cell_book.specs.Account.{Account, Duty, new_book, cell_at, is_open, forces, opens, IsSound}
+use Rattle.cell_book.specs.Steps.{begun_form, claimed, BeginAnswer, MakeAnswer, FutureAnswer, ClaimAnswer, HasOpen, FindsFuture, Begins, Makes, Claims, Opens, Ends, Finishes, Fails, GivesUp, failed_state, IsOpenIn}
+use Rattle.cell_book.specs.Glimpses.{glimpse, Glimpse, Sees, SeesCell, SeesPlace, SeesSpent, SeesGaveUp, IsOpen, at_claim, after_open, after_end}
 use Rattle.cell_book.proofs.Lists.{get_last, set_here}
 use Rattle.cell_book.proofs.Moves.{failed_idle}
 use Rattle.cell_book.proofs.Opening.{begun_opens, made_opens, claimed_opens, ended_opens, form_opens, fresh_opens, begun_sound, made_sound, claimed_sound, ended_sound, form_sound}
@@ -96,6 +96,9 @@ pub begins_sound : (a b : Account) (number : ℕ) (answer : BeginAnswer) → IsS
 begins_sound a b number (Ok w) s h = subst IsSound (sym h.3) (begun_sound a number w.claim h.2 s)
 begins_sound a b number (Err r) s h = subst IsSound (sym h) s
 
+pub new_sound : (limit : ℕ) → IsSound (new_book limit)
+new_sound limit = record { once = λ c. omega arith; within = omega arith }
+
 noted_sound : (a : Account) (spent gave_up : Bool) → IsSound a → IsSound (record { limit = a.limit; cells = a.cells; forms = a.forms; spent = spent; gave_up = gave_up })
 noted_sound a spent gave_up s = record { once = s.once; within = s.within }
 
@@ -127,6 +130,15 @@ gives_up_sound a b w s (m, h, e) = subst IsSound (sym e) (noted_sound m m.spent 
 -- the whole book was seen
 pub sees_whole : (leads : Bool) (mine : ℕ → ℕ) (g : Glimpse) (b : Account) → Sees leads mine g b (glimpse b)
 sees_whole leads mine g b = record { limit = refl; cells = λ id. inr (inl refl); forms = λ k. inr (inl refl); begun = λ is. refl; made = λ c m. refl; asked = λ c m id. refl; spent = inr refl; gave_up = inr refl }
+
+-- a future that was found
+pub finds_same : (a b : Account) (answer : FutureAnswer) → FindsFuture a answer b → b ≡ a
+finds_same a b None h = h.0
+finds_same a b (Some id) h = h.0
+
+pub sees_future : (answer : FutureAnswer) (b : Account) → IfSome answer (λ (id : ℕ). SeesCell id b (glimpse b))
+sees_future None b = tt
+sees_future (Some id) b = refl
 
 -- the notes were seen
 pub sees_spent : (a b : Account) (by : Duty) (t : Term) (k : Kind) (answer : MakeAnswer) → Makes a by t k answer b → IfErr answer (λ r. SeesSpent r (glimpse b))

@@ -20,6 +20,10 @@ pub record Account : Type 0 where
   -- a work was given up
   pub gave_up : Bool
 
+-- a book without cells and forms
+abbrev pub new_book : ℕ → Account
+new_book limit = record { limit = limit; cells = []; forms = []; spent = false; gave_up = false }
+
 -- What contracts see of a work: the form or the part that it is on, its claim, and the values of the forms before.
 pub record Duty : Type 0 where
   pub place : Place
