@@ -7,3 +7,4 @@ pub mod Stepping
 pub mod Onwards
 pub mod Moves
 pub mod Laws
+pub mod Futures

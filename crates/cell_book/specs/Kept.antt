@@ -1,7 +1,10 @@
 -- What a book keeps beside what contracts see of it: counts of makes, the values of the first forms, and a number above those of all claims.
-use Rattle.std.specs.Prelude.{◌≡◌, ℕ, ◌≤◌, List, length, take, slice_get, Some}
+use Rattle.std.specs.Prelude.{◌≡◌, ℕ, ◌≤◌, ◌<◌, Bool, true, false, cond, List, length, take, slice_get, Some}
 use Rattle.seq_values.specs.declared.value.Value.{Value}
-use Rattle.cell_book.specs.declared.cell.State.TheVariants.{Forcing}
+use Rattle.seq_values.specs.declared.words.Kind.{Kind}
+use Rattle.seq_values.specs.declared.words.Kind.TheVariants.{Lazy, Future}
+use Rattle.cell_book.specs.declared.cell.State.{State}
+use Rattle.cell_book.specs.declared.cell.State.TheVariants.{Empty, Forcing}
 use Rattle.cell_book.specs.declared.cell.Cell.{Cell}
 use Rattle.cell_book.specs.Account.{Account, made_by, IsFresh, IsSound}
 use Rattle.cell_book.specs.Steps.{begun_form, values_in}
@@ -18,3 +21,20 @@ pub record IsKept (a : Account) (cell_makes form_makes : List ℕ) (settled : Li
   pub fresh : (claim : ℕ) → next ≤ claim → IsFresh a claim
   pub makes : CountsMakes a cell_makes form_makes
   pub settled_first : settled ≡ take (length settled) (values_in a.forms)
+
+abbrev pub is_future : Kind → Bool
+is_future Lazy = false
+is_future Future = true
+
+abbrev pub is_empty : State → Bool
+is_empty Empty = true
+is_empty _ = false
+
+-- it is an empty future
+abbrev pub is_open_future : Cell → Bool
+is_open_future p = cond (is_future p.kind) (is_empty p.state) false
+
+-- no cell before this place is an empty future
+pub record IsPastFutures (cells : List Cell) (first : ℕ) : Type 0 where
+  pub within : first ≤ length cells
+  pub before : (i : ℕ) (p : Cell) → i < first → slice_get cells i ≡ Some p → is_open_future p ≡ false

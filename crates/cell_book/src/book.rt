@@ -1,10 +1,11 @@
-ghost use Rattle.std.specs.Prelude.{◌≡◌, ◌+◌, ◌≤◌, ◌<◌, ◌⊎◌, ◌∷◌, ◌++◌, [], ℕ, List, Option, Some, length, take, false, slice_get, slice_set, vec_len, ◌≢◌, option_copied, option_map, unwrap_or, IfOk, OnOk, OnErr, IfErr, IfSome, MatchResult};
+ghost use Rattle.std.specs.Prelude.{◌≡◌, ◌+◌, ◌≤◌, ◌<◌, ◌⊎◌, ◌∷◌, ◌++◌, [], ℕ, List, Option, Some, None, length, take, true, false, slice_get, slice_set, vec_len, ◌≢◌, option_copied, option_map, unwrap_or, IfOk, OnOk, OnErr, IfErr, IfSome, MatchResult};
 ghost use Rattle.seq_values.specs.declared.value.Value.TheVariants.{Nil};
 ghost use Rattle.cell_book.specs.declared.cell.Cell.{Cell as Part};
 ghost use Rattle.cell_book.specs.declared.cell.Attempt.{Attempt as Record};
 ghost use Rattle.cell_book.specs.Counts.{totals_of};
+ghost use Rattle.cell_book.specs.Kept.{is_open_future, IsPastFutures};
 ghost use Rattle.cell_book.specs.Account.{Account, cell_at, is_open, forces, made_by, IsFresh};
-ghost use Rattle.cell_book.specs.Steps.{values_in, shown, term_at, kind_at, asker_of, begun_form, with_cell, after_claim, is_barred, cell_counts, form_counts, claimed, failed_state, fresh_cell, HasCount, Begins, Makes, Opens, Claims, EndsForm, Finishes, Fails, GivesUp, HasOpen, IsOpenIn, IsOpenAsker};
+ghost use Rattle.cell_book.specs.Steps.{values_in, shown, term_at, kind_at, asker_of, begun_form, with_cell, after_claim, is_barred, cell_counts, form_counts, claimed, failed_state, fresh_cell, HasCount, Begins, Makes, FindsFuture, Opens, Claims, EndsForm, Finishes, Fails, GivesUp, HasOpen, IsOpenIn, IsOpenAsker};
 ghost use Rattle.cell_book.specs.declared.cell.ClaimEnd.TheVariants as End;
 ghost use Rattle.cell_book.specs.declared.answers.Look.TheVariants as Look;
 ghost use Rattle.cell_book.specs.declared.answers.MakeRefusal.TheVariants as Refusal;
@@ -208,6 +209,36 @@ fn open_cell(
     cells[at].open(alloc, claim, asker)
 }
 
+/// The place of the first empty future from here on, or how many cells there are.
+#[tactic(auto, using(crate::proofs::Futures::past_next, crate::proofs::Futures::future_found, crate::proofs::Futures::future_past))]
+fn future_from(cells: &Vec<Cell>, from: usize) -> usize
+    requires { IsPastFutures cells.now.items from }
+    ensures past { IsPastFutures cells.now.items result }
+    ensures found { (p : Part) → slice_get cells.now.items result ≡ Some p → is_open_future p ≡ true }
+{
+    let mut at = from;
+    while at < cells.len() {
+        if cells[at].is_open_future() {
+            return at;
+        }
+        at += 1;
+    }
+    at
+}
+
+/// The number of the cell at a place, if there is one.
+fn id_at(cells: &Vec<Cell>, at: usize) -> Option<CellId>
+    requires { length cells.now.items ≤ 4294967295 }
+    ensures there { at < length cells.now.items → result ≡ Some (at + 1) }
+    ensures past { length cells.now.items ≤ at → result ≡ None }
+{
+    if at < cells.len() {
+        Some(next_id(at))
+    } else {
+        None
+    }
+}
+
 impl Book {
     /// A book with no cell and no claim. `cells` is how many cells it may have.
     pub fn new(alloc: Global, cells: u32) -> Result<Book, NoMemory>
@@ -339,6 +370,17 @@ impl Book {
             }
             Ok(seen) => Err(ClaimRefusal::Seen(seen)),
         }
+    }
+
+    /// The empty future with the lowest number, and `None` exactly where no future is empty.
+    #[tactic(auto, using(crate::proofs::Futures::none_past))]
+    pub fn open_future(&mut self) -> Option<CellId>
+        ensures { FindsFuture self.old result self.new }
+    {
+        // There are no more of them than the limit, which is a u32.
+        let _limit = self.limit;
+        let at = future_from(&self.cells, 0);
+        id_at(&self.cells, at)
     }
 
     /// Opens a claim on a part that is empty.

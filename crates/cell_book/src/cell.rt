@@ -2,6 +2,7 @@ ghost use Rattle.std.specs.Prelude.{◌≡◌, ◌∷◌, ◌++◌, [], List, �
 ghost use Rattle.seq_values.specs.declared.value.Value.TheVariants.{Nil};
 ghost use Rattle.cell_book.specs.declared.cell.Attempt.{Attempt as Record};
 ghost use Rattle.cell_book.specs.Account.{opened};
+ghost use Rattle.cell_book.specs.Kept.{is_open_future};
 ghost use Rattle.cell_book.specs.Steps.{begun_form, claimed, after_claim, failed_state, shown_state, HasOpen};
 
 use crate::answers::Look;
@@ -104,6 +105,16 @@ impl Attempt {
 }
 
 impl Cell {
+    /// It is a future that nobody evaluates yet.
+    pub(crate) fn is_open_future(&self) -> bool
+        ensures { result ≡ is_open_future self.now }
+    {
+        match (self.kind, &self.state) {
+            (Kind::Future, State::Empty) => true,
+            _ => false,
+        }
+    }
+
     /// Opens a claim. Where there is no memory nothing changes.
     pub(crate) fn open(
         &mut self,

@@ -4,10 +4,12 @@
 ghost use Rattle.std.specs.Prelude.{◌≡◌, ◌≢◌, ℕ, true, Contains, IfOk, pos};
 ghost use Rattle.seq_values.specs.declared.value.Value.TheVariants.{Int};
 ghost use Rattle.cell_book.specs.declared.answers.Look.TheVariants.{Done};
-ghost use Rattle.cell_book.specs.Steps.{shown};
+ghost use Rattle.cell_book.specs.Steps.{shown, shown_state, failed_state};
+ghost use Rattle.cell_book.specs.declared.cell.Cell.{Cell};
+ghost use Rattle.seq_base.specs.declared.thrown.Thrown.TheVariants.{Divide};
 ghost use Rattle.cell_book.specs.Account.{Duty};
 ghost use Rattle.cell_book.specs.Glimpses.{Owns, LawIs};
-ghost use Rattle.cell_client.specs.Sevens.{IsSevens, IsOn};
+ghost use Rattle.cell_client.specs.Sevens.{IsSevens, IsOn, IsNew};
 
 #[cfg(test)]
 mod tests;
@@ -46,6 +48,7 @@ pub fn add<C: Cells>(cells: &mut C, by: &Work, kind: Kind) -> Result<CellId, Mak
     requires own { Owns (C.held cells.old) (C.seen cells.old) by.now }
     requires law { LawIs (C.alone cells.old) (C.law cells.old) (C.noted cells.old) IsSevens }
     ensures own { Owns (C.held cells.new) (C.seen cells.new) by.now }
+    ensures made { IfOk result (λ id. IsNew by.now kind ((C.seen cells.new).cells id)) }
     ensures law { LawIs (C.alone cells.new) (C.law cells.new) (C.noted cells.new) IsSevens }
     ensures same { C.same cells.old cells.new }
 {
@@ -108,6 +111,7 @@ pub fn throw<C: Cells>(cells: &mut C, by: &Work, work: Work)
     requires apart { by.now.claim ≢ work.claim }
     requires law { LawIs (C.alone cells.old) (C.law cells.old) (C.noted cells.old) IsSevens }
     ensures own { Owns (C.held cells.new) (C.seen cells.new) by.now }
+    ensures thrown { (id : ℕ) (p : Cell) → IsOn id work.place → (C.seen cells.old).cells id ≡ Some p → shown ((C.seen cells.new).cells id) ≡ shown_state (failed_state Divide p.kind) }
     ensures law { LawIs (C.alone cells.new) (C.law cells.new) (C.noted cells.new) IsSevens }
     ensures same { C.same cells.old cells.new }
 {

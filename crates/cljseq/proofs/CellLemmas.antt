@@ -22,9 +22,9 @@ use Rattle.cell_book.specs.Glimpses.{glimpse, Holds}
 use Rattle.cell_book.proofs.Lists.{get_longer, set_other}
 use Rattle.cell_book.proofs.Onwards.{open_onward}
 use Rattle.cell_book.proofs.Opening.{renumbered_long}
-use Rattle.cell_book.proofs.Laws.{opened_held, new_claim, ended_held, open_held}
+use Rattle.cell_book.proofs.Laws.{opened_held, new_claim, ended_held, open_held, apart_if}
 use Rattle.cell_book.proofs.Stepping.{makes_opens, claims_opens, claims_new, claims_open, finishes_opens, gives_up_opens}
-use Rattle.cell_book.proofs.Moves.{makes_holds, makes_here, claims_onward, finishes_holds, gives_up_holds, finishes_shown}
+use Rattle.cell_book.proofs.Moves.{makes_holds, makes_here, claims_holds, finishes_holds, gives_up_holds, finishes_shown}
 use Rattle.cljseq.specs.declared.chain.Step.{Step}
 use Rattle.cljseq.specs.Elements.{elements}
 use Rattle.cljseq.proofs.ItemLemmas.{near_elements}
@@ -49,7 +49,7 @@ makes_owns a b by t k answer w h o =
 
 pub claims_owns : (a b : Account) (id : ℕ) (asker : Option ℕ) (answer : ClaimAnswer) (w : Duty) → Claims a id asker answer b → IsOwn a w → IsOwn b w
 claims_owns a b id asker answer w h o =
-    own_still a b w ((claims_onward a b id asker answer w.claim h).holds) (subst (λ (n : ℕ). 0 < n) (sym (claims_opens a b id asker answer h w.claim)) (open_held (λ c. opens c a) answer w.claim o.0)) o
+    own_still a b w (claims_holds a b id asker answer w.claim h (apart_if (λ c. opens c a) answer w.claim (claims_new a b id asker answer h) o.0)) (subst (λ (n : ℕ). 0 < n) (sym (claims_opens a b id asker answer h w.claim)) (open_held (λ c. opens c a) answer w.claim o.0)) o
 
 pub claims_own : (a b : Account) (id : ℕ) (asker : Option ℕ) (w : Duty) → Claims a id asker (Ok w) b → IsOwn b w
 claims_own a b id asker w h = (opened_held (λ c. opens c a) (λ c. opens c b) w (claims_opens a b id asker (Ok w) h w.claim), claims_open a b id asker w h)
