@@ -1,15 +1,13 @@
 -- Books that grow, and what each kind of step leaves of what others know.
-use Rattle.std.proofs.Common.{◌≡◌, ◌≢◌, ℕ, zero, suc, ◌+◌, ◌-◌, ◌<◌, ◌≤◌, Bool, true, false, true≢false, List, [], ◌∷◌, ◌++◌, length, Some, None, Option, sym, refl, ap, ◌∙◌, subst, arith, le_refl}
+use Rattle.std.proofs.Common.{◌≡◌, ◌≢◌, ℕ, zero, suc, ◌+◌, ◌-◌, ◌<◌, ◌≤◌, Bool, false, List, [], ◌∷◌, length, Some, Option, sym, refl, ap, ◌∙◌, subst, arith, le_refl}
 use Rattle.std.specs.Prelude.{slice_get, slice_set}
-use Rattle.std.proofs.lemmas.Option.{none-some, same_Some}
+use Rattle.std.proofs.lemmas.Option.{same_Some}
 use mathlib.Core.Logic.{dite}
 use native.Mathlib.Decide.{ℕ_discrete}
-use Rattle.cell_book.specs.declared.cell.State.TheVariants as S
 use Rattle.cell_book.specs.declared.cell.Attempt.{Attempt}
-use Rattle.cell_book.specs.declared.cell.Cell.{Cell}
 use Rattle.cell_book.specs.declared.cell.Form.{Form}
-use Rattle.cell_book.specs.Account.{Account, Duty, cell_at, opened, opens, begun, begun_in, IsFresh, IsSound}
-use Rattle.cell_book.specs.Glimpses.{Glimpse, glimpse, Reaches, IsForced, Holds, Onward, at_claim, after_end}
+use Rattle.cell_book.specs.Account.{Account, Duty, opened, opens, begun, begun_in, IsFresh, IsSound}
+use Rattle.cell_book.specs.Glimpses.{Glimpse, glimpse, Reaches, IsForced, Holds, Onward, at_claim}
 use Rattle.cell_book.proofs.Lists.{get_last}
 use Rattle.cell_book.proofs.Opening.{at_claim_same, at_claim_other, numbered_some, fresh_opens}
 use Rattle.cell_book.proofs.Onwards.{reaches_same, reaches_then, onward_same}

@@ -1,9 +1,7 @@
 -- What each call on a book is to the rule.
-use Rattle.std.proofs.Common.{◌≡◌, ◌≢◌, ℕ, zero, suc, ◌+◌, ◌-◌, ◌<◌, ◌≤◌, Bool, true, false, true≢false, List, [], ◌∷◌, ◌++◌, length, Some, None, Ok, Err, Option, Result, sym, refl, ap, ◌∙◌, subst, arith, le_refl, length-append, ⊎_elim, ◌⊎◌}
-use Rattle.std.specs.Prelude.{slice_get, slice_set, IfOk}
+use Rattle.std.proofs.Common.{◌≡◌, ◌≢◌, ℕ, zero, suc, ◌+◌, ◌<◌, ◌≤◌, Bool, true, true≢false, List, [], ◌∷◌, ◌++◌, length, Some, None, Ok, Err, Option, sym, refl, ap, ◌∙◌, subst, arith, length-append, ⊎_elim}
+use Rattle.std.specs.Prelude.{slice_get, slice_set}
 use Rattle.std.proofs.lemmas.Option.{none-some, same_Some}
-use mathlib.Core.Logic.{dite}
-use native.Mathlib.Decide.{ℕ_discrete}
 use Rattle.seq_base.specs.declared.thrown.Thrown.{Thrown}
 use Rattle.seq_vector.specs.declared.share.NoMemory.{NoMemory}
 use Rattle.seq_values.specs.declared.value.Value.{Value}
@@ -20,15 +18,14 @@ use Rattle.cell_book.specs.declared.cell.Cell.{Cell}
 use Rattle.cell_book.specs.declared.cell.Form.{Form}
 use Rattle.cell_book.specs.declared.work.Place.{Place}
 use Rattle.cell_book.specs.declared.work.Place.TheVariants as P
-use Rattle.cell_book.specs.Account.{Account, Duty, cell_at, opened, closed, opens, begun, begun_in, IsFresh, IsSound}
-use Rattle.cell_book.specs.Steps.{begun_form, claimed, with_cell, with_form, asker_of, HasOpen, Begins, BeginAnswer, Makes, MakeAnswer, Looks, LookAnswer, Kinds, KindAnswer, FindsFuture, FutureAnswer, Claims, ClaimAnswer, Ends, Finishes, Fails, GivesUp, IsOpenFuture}
-use Rattle.cell_book.specs.Glimpses.{Glimpse, glimpse, Stays, Reaches, IsForced, Holds, Onward, MayAsk, Owns, after_open, after_end}
-use Rattle.cell_book.proofs.Lists.{get_snoc, set_here, get_set}
-use Rattle.cell_book.proofs.Opening.{numbered_some, fresh_opens}
-use Rattle.cell_book.proofs.Onwards.{reaches_same}
-use Rattle.cell_book.proofs.Moves.{begins_reaches, begins_onward, makes_reaches, makes_onward, makes_holds, claims_reaches, claims_onward, claims_holds, ends_reaches, finishes_reaches, fails_reaches, gives_up_reaches, finishes_onward, fails_onward, gives_up_onward, finishes_holds, fails_holds, gives_up_holds}
+use Rattle.cell_book.specs.Account.{Account, Duty, cell_at, opened, closed, opens, begun, begun_in, IsSound}
+use Rattle.cell_book.specs.Steps.{begun_form, claimed, with_cell, with_form, asker_of, Begins, BeginAnswer, Makes, MakeAnswer, Looks, LookAnswer, Kinds, KindAnswer, FindsFuture, FutureAnswer, Claims, ClaimAnswer, Ends, Finishes, Fails, GivesUp}
+use Rattle.cell_book.specs.Glimpses.{Glimpse, glimpse, Reaches, IsForced, MayAsk, after_open, after_end}
+use Rattle.cell_book.proofs.Lists.{get_set}
+use Rattle.cell_book.proofs.Opening.{numbered_some}
+use Rattle.cell_book.proofs.Moves.{begins_reaches, begins_onward, makes_reaches, makes_onward, makes_holds, claims_reaches, claims_onward, claims_holds, finishes_reaches, fails_reaches, gives_up_reaches, finishes_onward, fails_onward, gives_up_onward, finishes_holds, fails_holds, gives_up_holds}
 use Rattle.cell_book.proofs.Stepping.{begins_opens, makes_opens, claims_opens, finishes_opens, fails_opens, gives_up_opens, begins_sound, makes_sound, claims_sound, finishes_sound, fails_sound, gives_up_sound}
-use Rattle.cell_shared.specs.Growing.{IsQuiet, Grows, Asks, Turns}
+use Rattle.cell_shared.specs.Growing.{IsQuiet, Asks, Turns}
 use Rattle.cell_shared.proofs.Growing.{turns_same, opened_turns, ended_turns, fresh_forced, begun_set}
 
 some_is : (x y : ℕ) → Some x ≡ Some y → x ≡ y

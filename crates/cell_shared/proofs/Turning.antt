@@ -12,7 +12,7 @@ use prog.Atomic.{either}
 use Rattle.atomic_table.specs.Table.{State, keeps as stay, takes as takes_slot, gives, step, put_back, rest, Allows, Splits, Joins, opening}
 use Rattle.atomic_table.proofs.Lists.{at_set, set_again, set_here, set_else, at_snoc, at_longer}
 use Rattle.cell_book.specs.Account.{Account, opens, begun}
-use Rattle.cell_book.specs.Glimpses.{glimpse, IsForced, Onward}
+use Rattle.cell_book.specs.Glimpses.{glimpse, Onward}
 use Rattle.cell_book.proofs.Lists.{get_longer, get_snoc}
 use Rattle.cell_book.proofs.Onwards.{onward_same, onward_then}
 use Rattle.cell_shared.specs.Growing.{fresh, times, counted, Grows, Asks, Knows, Turns}

@@ -1,13 +1,13 @@
 -- From what a pass knows to what a caller of its calls is told.
-use Rattle.std.proofs.Common.{◌≡◌, ◌≢◌, ℕ, zero, suc, ◌+◌, ◌-◌, ◌<◌, ◌≤◌, ◌==◌, Bool, true, false, cond, List, [], ◌∷◌, ◌++◌, length, Some, None, Ok, Err, Option, Result, sym, refl, ap, ◌∙◌, subst, arith, eq-eqb, ne_eqb}
+use Rattle.std.proofs.Common.{◌≡◌, ℕ, ◌+◌, ◌-◌, ◌<◌, ◌≤◌, ◌==◌, Bool, cond, List, [], ◌∷◌, length, Some, None, Ok, Err, Option, Result, sym, refl, ap, ◌∙◌, subst, arith, eq-eqb, ne_eqb}
 use Rattle.std.specs.Prelude.{IfOk, IfSome}
 use Rattle.std.proofs.lemmas.List.Sums.{sum_by-cons}
 use mathlib.Core.Logic.{dite}
 use native.Mathlib.Decide.{ℕ_discrete}
-use Rattle.cell_book.specs.Account.{Account, Duty, opens, begun}
+use Rattle.cell_book.specs.Account.{Account, Duty, opens}
 use Rattle.cell_book.specs.Steps.{IsOpenIn, IsOpenAsker, MakeAnswer, BeginAnswer, FutureAnswer, Begins, FindsFuture}
 use Rattle.cell_book.specs.Glimpses.{glimpse, Foresees, IsOpen, Owns, MayAsk, SeesCell, SeesPlace, at_claim}
-use Rattle.cell_book.proofs.Opening.{at_claim_same, at_claim_other}
+use Rattle.cell_book.proofs.Opening.{at_claim_other}
 use Rattle.cell_book.proofs.Onwards.{open_onward}
 use Rattle.cell_book.proofs.Stepping.{sees_place, begun_open}
 use Rattle.cell_shared.specs.Growing.{times, counted, IsQuiet, Knows, Noted}

@@ -1,5 +1,5 @@
 -- How a shared book grows, what a pass knows of it, and what the rule asks of a step on it.
-use Rattle.std.specs.Prelude.{◌≡◌, ℕ, ◌+◌, ◌<◌, ◌≤◌, ◌==◌, Bool, true, false, List, [], ◌∷◌, length, count_by, Option, Some}
+use Rattle.std.specs.Prelude.{◌≡◌, ℕ, ◌+◌, ◌<◌, ◌≤◌, ◌==◌, Bool, true, false, List, [], length, count_by, Some}
 use Rattle.cell_book.specs.Account.{Account, opens, begun, IsSound}
 use Rattle.cell_book.specs.Steps.{IsOpenFuture}
 use Rattle.cell_book.specs.Glimpses.{glimpse, Reaches, IsForced, Onward}

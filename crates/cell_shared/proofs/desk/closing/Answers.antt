@@ -1,4 +1,4 @@
-use Rattle.std.proofs.Common.{◌≡◌, ℕ, List, ap, sym, ◌∙◌}
+use Rattle.std.proofs.Common.{ℕ, ap, ◌∙◌}
 use Rattle.cell_shared.specs.Growing.{counted}
 use Rattle.cell_shared.specs.Known.{without}
 use Rattle.cell_shared.proofs.Viewing.{without_one}

@@ -1,13 +1,12 @@
-use Rattle.std.proofs.Common.{◌≡◌, ℕ, ◌<◌, ◌-◌, Bool, true, List, sym, ap, ◌∙◌, subst}
-use Rattle.std.specs.Prelude.{option_copied}
-use Rattle.cell_book.specs.Glimpses.{glimpse, Owns, MayAsk, after_open, after_end, at_claim}
-use Rattle.cell_shared.specs.Growing.{counted, Turns}
-use Rattle.cell_shared.specs.Known.{Known, after}
+use Rattle.std.proofs.Common.{◌≡◌, ℕ, List, sym, ap, subst}
+use Rattle.cell_book.specs.Glimpses.{glimpse, Owns}
+use Rattle.cell_shared.specs.Growing.{counted}
+use Rattle.cell_shared.specs.Known.{Known}
 use Rattle.cell_shared.specs.Turning.{Sat}
 use Rattle.cell_shared.proofs.Growing.{turns_as}
 use Rattle.cell_shared.proofs.Stepping.{makes_turns}
 use Rattle.cell_shared.proofs.Turning.{has_turn, keeps_law}
-use Rattle.cell_shared.proofs.Viewing.{open_in, open_asker}
+use Rattle.cell_shared.proofs.Viewing.{open_in}
 use Rattle.cell_shared.proofs.shared.SharedBook.make.Goals as goal
 
 pub make-answer-requires : goal.make-answer-requires

@@ -1,10 +1,8 @@
-use Rattle.std.proofs.Common.{◌≡◌, Bool, true≢false, refl, sym, subst, ap, ◌∙◌}
-use Rattle.std.specs.Prelude.{option_copied}
-use Rattle.cell_book.specs.Steps.{asker_of}
+use Rattle.std.proofs.Common.{Bool, true≢false, refl, sym, subst}
 use Rattle.cell_book.specs.Glimpses.{glimpse}
-use Rattle.cell_book.proofs.Stepping.{sees_whole, sees_place, claims_open_if, claims_new, begins_new, sees_spent, sees_gave_up, given_up_noted}
+use Rattle.cell_book.proofs.Stepping.{sees_whole}
 use Rattle.cell_shared.specs.Growing.{counted, Noted}
-use Rattle.cell_shared.proofs.Viewing.{foresees, noted_stays, if_fresh, begins_sees, begins_open_if, makes_sees, finds_sees, finds_same}
+use Rattle.cell_shared.proofs.Viewing.{foresees, noted_stays}
 use Rattle.cell_shared.proofs.viewed.ViewedCells.look.Goals as goal
 
 pub returns-clause-step : goal.returns-clause-step
