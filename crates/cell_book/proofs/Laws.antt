@@ -41,7 +41,7 @@ ended_held mine mine2 w c h n m = let t = at_claim_other w.claim c (λ e. n (sym
 -- what it owns it owns after a step that holds it
 pub still_owns : (alone leads : Bool) (law noted : Account → Type 0) (g h : Glimpse) (mine mine2 : ℕ → ℕ) (a b : Account) (w : Duty) → Owns mine g w → Fits alone leads law noted g mine a → Holds w.claim (glimpse a) (glimpse b) → Sees leads mine2 g b h → 0 < mine2 w.claim → Owns mine2 h w
 still_owns alone leads law noted g h mine mine2 a b w o f x s m =
-    (m, open_onward w g h (holds_seen leads mine2 w.claim g b h (holds_then w.claim g (glimpse a) (glimpse b) ((fits_onward alone leads law noted g mine a w.claim f o.0).holds) x) s) o.1)
+    (m, open_onward w g h (holds_seen leads mine2 w.claim g b h (holds_then w.claim g (glimpse a) (glimpse b) ((fits_onward alone leads law noted g mine a w.claim f o.0).holds) x) s m) o.1)
 
 pub open_held : {E : Type 0} (mine : ℕ → ℕ) (answer : Result Duty E) (c : ℕ) → 0 < mine c → 0 < after_open mine answer c
 open_held mine (Ok w) c m = omega arith

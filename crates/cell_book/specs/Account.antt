@@ -71,10 +71,10 @@ abbrev pub is_asker : ℕ → Option ℕ → Bool
 is_asker claim None = false
 is_asker claim (Some c) = c == claim
 
--- the attempts in the list that ended, and that the claim asked for
+-- the attempts in the list that the claim asked for, ended or open
 abbrev pub asked_by : ℕ → List Attempt → List Attempt
 asked_by claim [] = []
-asked_by claim (x ∷ xs) = cond (cond (is_open x.end) false (is_asker claim x.asker)) (x ∷ asked_by claim xs) (asked_by claim xs)
+asked_by claim (x ∷ xs) = cond (is_asker claim x.asker) (x ∷ asked_by claim xs) (asked_by claim xs)
 
 abbrev pub asked_at : ℕ → Option Cell → List Attempt
 asked_at claim None = []

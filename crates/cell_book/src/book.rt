@@ -4,7 +4,7 @@ ghost use Rattle.cell_book.specs.declared.cell.Cell.{Cell as Part};
 ghost use Rattle.cell_book.specs.declared.cell.Attempt.{Attempt as Record};
 ghost use Rattle.cell_book.specs.Counts.{totals_of};
 ghost use Rattle.cell_book.specs.Account.{Account, cell_at, is_open, forces, made_by, IsFresh};
-ghost use Rattle.cell_book.specs.Steps.{values_in, shown, term_at, kind_at, asker_of, begun_form, with_cell, after_claim, is_barred, cell_counts, form_counts, claimed, failed_state, fresh_cell, HasCount, Begins, Makes, Opens, Claims, EndsForm, Finishes, Fails, GivesUp, HasOpen, IsOpenIn, IsOpenAsker};
+ghost use Rattle.cell_book.specs.Steps.{values_in, shown, term_at, kind_at, asker_of, begun_form, with_cell, after_claim, is_barred, cell_counts, form_counts, claimed, failed_state, fresh_cell, HasCount, Begins, Makes, FindsFuture, Opens, Claims, EndsForm, Finishes, Fails, GivesUp, HasOpen, IsOpenIn, IsOpenAsker};
 ghost use Rattle.cell_book.specs.declared.cell.ClaimEnd.TheVariants as End;
 ghost use Rattle.cell_book.specs.declared.answers.Look.TheVariants as Look;
 ghost use Rattle.cell_book.specs.declared.answers.MakeRefusal.TheVariants as Refusal;
@@ -339,6 +339,13 @@ impl Book {
             }
             Ok(seen) => Err(ClaimRefusal::Seen(seen)),
         }
+    }
+
+    /// The empty future with the lowest number, and `None` exactly where no future is empty.
+    pub fn open_future(&mut self) -> Option<CellId>
+        ensures { FindsFuture self.old result self.new }
+    {
+        None
     }
 
     /// Opens a claim on a part that is empty.
