@@ -58,7 +58,7 @@ module _ (a : Account) (number claim : ℕ) where
   abbrev with_begun : Account
   with_begun = record a { forms = a.forms ++ begun_form number claim ∷ [] }
 
-  begun_reaches : Reaches (glimpse a) (glimpse with_begun)
+  pub begun_reaches : Reaches (glimpse a) (glimpse with_begun)
   begun_reaches = record { limit = refl; cells = λ id p e. (p, e, stays_same p); forms = λ k f e. (f, get_longer a.forms k (begun_form number claim) f e, form_stays_same f); spent = λ e. e; gave_up = λ e. e }
 
   begun_holds : (c : ℕ) → c ≢ claim → Holds c (glimpse a) (glimpse with_begun)
@@ -110,7 +110,7 @@ made_asked : (a : Account) (by : Duty) (t : Term) (k : Kind) (c id : ℕ) → as
 made_asked a by t k c zero = refl
 made_asked a by t k c (suc i) = asked_push c a.cells (new_cell a by t k) i refl
 
-made_reaches : (a : Account) (by : Duty) (t : Term) (k : Kind) → Reaches (glimpse a) (glimpse (record a { cells = a.cells ++ new_cell a by t k ∷ [] }))
+pub made_reaches : (a : Account) (by : Duty) (t : Term) (k : Kind) → Reaches (glimpse a) (glimpse (record a { cells = a.cells ++ new_cell a by t k ∷ [] }))
 made_reaches a by t k = record { limit = refl; cells = λ id p e. (p, cell_longer a (new_cell a by t k) id p e, stays_same p); forms = λ i f e. (f, e, form_stays_same f); spent = λ e. e; gave_up = λ e. e }
 
 made_holds : (a : Account) (by : Duty) (t : Term) (k : Kind) (c : ℕ) → Holds c (glimpse a) (glimpse (record a { cells = a.cells ++ new_cell a by t k ∷ [] }))
@@ -166,7 +166,7 @@ module _ (a : Account) (i c : ℕ) (p q : Cell) (at : slice_get a.cells i ≡ So
   written_other zero n = refl
   written_other (suc j) n = set_other a.cells i j q (λ e. n (ap suc e))
 
-  written_reaches : Stays p q → Reaches (glimpse a) (glimpse (with_cell a (suc i) q))
+  pub written_reaches : Stays p q → Reaches (glimpse a) (glimpse (with_cell a (suc i) q))
   written_reaches s = record { limit = refl; cells = λ id x f. cell id x f (same_or id (suc i)); forms = λ k f e. (f, e, form_stays_same f); spent = λ e. e; gave_up = λ e. e }
     where
       cell : (id : ℕ) (x : Cell) → cell_at a id ≡ Some x → (id ≡ suc i) ⊎ (id ≢ suc i) → (y : Cell) × (cell_at (with_cell a (suc i) q) id ≡ Some y) × Stays x y
@@ -225,7 +225,7 @@ asked_own : (c : ℕ) (xs : List Attempt) (x : Attempt) → x.asker ≡ Some c �
 asked_own c xs x e = asked_more c xs x ∙ ap (λ (t : Bool). asked_by c xs ++ cond t (x ∷ []) []) (ap (is_asker c) e ∙ eq-eqb c c refl)
 
 -- a claim is opened
-claimed_stays : (p : Cell) (claim : ℕ) (asker : Option ℕ) → p.state ≡ S.Empty → Stays p (claimed p claim asker)
+pub claimed_stays : (p : Cell) (claim : ℕ) (asker : Option ℕ) → p.state ≡ S.Empty → Stays p (claimed p claim asker)
 claimed_stays p claim asker s = record {
   term = refl;
   kind = refl;
@@ -280,7 +280,7 @@ forcing_done c v e = cc
 forcing_failed : (c : ℕ) (w : Thrown) → S.Forcing c ≡ S.Failed w → ⊥
 forcing_failed c w e = cc
 
-after_stays : (p : Cell) (claim : ℕ) (asker : Option ℕ) (past : List Attempt) (end : ClaimEnd) (state : State) → HasOpen p claim asker past → Stays p (after_claim p claim asker past end state)
+pub after_stays : (p : Cell) (claim : ℕ) (asker : Option ℕ) (past : List Attempt) (end : ClaimEnd) (state : State) → HasOpen p claim asker past → Stays p (after_claim p claim asker past end state)
 after_stays p claim asker past end state h = record {
   term = refl;
   kind = refl;

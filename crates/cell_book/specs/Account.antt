@@ -24,7 +24,7 @@ pub record Account : Type 0 where
 abbrev pub new_book : ℕ → Account
 new_book limit = record { limit = limit; cells = []; forms = []; spent = false; gave_up = false }
 
--- What contracts see of a work: the form or the part that it is on, its claim, and the values of the forms before.
+-- What contracts see of a work: the form or the part that it is on, its claim, and its outcomes, the values of the forms before. Of an outcome that of a `def` form alone is meant: what any other form gave (the text of a `prn`, or nil) stands in its place, and no body names it. So outcomes are compared by `referred` of `seq_meaning`, which reads nil there.
 pub record Duty : Type 0 where
   pub place : Place
   pub claim : ℕ

@@ -69,7 +69,7 @@ pub struct Form {
 
 impl State {
     /// What a look at a part in this state shows. The value of a part is shared.
-    pub(crate) fn look(&self) -> Result<Look, NoMemory>
+    pub fn look(&self) -> Result<Look, NoMemory>
         ensures { IfOk result (λ l. l ≡ shown_state self.now) }
     {
         Ok(match self {
@@ -81,7 +81,7 @@ impl State {
     }
 
     /// The state that an error leaves a part in: a lazy part may be asked again, a future has failed.
-    pub(crate) fn after_error(why: Thrown, kind: Kind) -> State
+    pub fn after_error(why: Thrown, kind: Kind) -> State
         ensures { result ≡ failed_state why kind }
     {
         match kind {
@@ -93,7 +93,7 @@ impl State {
 
 impl Attempt {
     /// The record of a claim as it is opened.
-    pub(crate) fn opened(claim: u128, asker: Option<u128>) -> Attempt
+    pub fn opened(claim: u128, asker: Option<u128>) -> Attempt
         ensures { result ≡ opened claim asker }
     {
         Attempt {
@@ -116,12 +116,7 @@ impl Cell {
     }
 
     /// Opens a claim. Where there is no memory nothing changes.
-    pub(crate) fn open(
-        &mut self,
-        alloc: Global,
-        claim: u128,
-        asker: Option<u128>,
-    ) -> Result<(), NoMemory>
+    pub fn open(&mut self, alloc: Global, claim: u128, asker: Option<u128>) -> Result<(), NoMemory>
         ensures ok { OnOk result (self.new ≡ claimed self.old claim asker) }
         ensures err { OnErr result (self.new ≡ self.old) }
     {
@@ -131,7 +126,7 @@ impl Cell {
     }
 
     /// Ends the open claim, which leaves the part in this state.
-    pub(crate) fn end(&mut self, end: ClaimEnd, state: State)
+    pub fn end(&mut self, end: ClaimEnd, state: State)
         ensures { (claim : ℕ) (asker : Option ℕ) (past : List Record) → HasOpen self.old claim asker past → self.new ≡ after_claim self.old claim asker past end state }
     {
         self.attempts.end_last(end);
@@ -141,7 +136,7 @@ impl Cell {
 
 impl Form {
     /// A form with its claim open.
-    pub(crate) fn begun(number: u32, claim: u128) -> Form
+    pub fn begun(number: u32, claim: u128) -> Form
         ensures { result ≡ begun_form number claim }
     {
         Form {
@@ -152,7 +147,7 @@ impl Form {
     }
 
     /// The value that it gave, shared, or nil.
-    pub(crate) fn outcome(&self) -> Result<Value, NoMemory>
+    pub fn outcome(&self) -> Result<Value, NoMemory>
         ensures { IfOk result (λ v. v ≡ unwrap_or self.now.value Nil) }
     {
         match &self.value {
@@ -162,7 +157,7 @@ impl Form {
     }
 
     /// Ends the claim, with a value or none.
-    pub(crate) fn end(&mut self, end: ClaimEnd, value: Option<Value>)
+    pub fn end(&mut self, end: ClaimEnd, value: Option<Value>)
         ensures { self.new ≡ record self.old { attempt = record self.old.attempt { end = end }; value = value } }
     {
         self.attempt.end = end;
