@@ -1,6 +1,8 @@
 -- What a program shows of itself.
 use Rattle.std.proofs.Common.{◌≡◌, Bool, true, false, ◌&&◌, ℕ, ◌+◌, ◌<◌, zero, suc, List, [], ◌∷◌, ◌++◌, length, map, Option, Some, None, refl, sym, ◌∙◌, ap, subst, arith}
-use Rattle.std.specs.Prelude.{slice_get}
+use Rattle.std.specs.Prelude.{slice_get, slice_index_or}
+use Rattle.std.specs.declared.vec.Vec.{Vec}
+use Rattle.std.specs.declared.alloc.Global.{Global}
 use Rattle.std.specs.Option.{option_map}
 use Rattle.clj_script.specs.declared.expr.Expr.{Expr}
 use Rattle.std.specs.Prelude.{◌-◌, MatchOption, IfSome}
@@ -8,7 +10,7 @@ use Rattle.std.specs.Option.{option_copied}
 use Rattle.std.specs.Borrow.{Bor}
 use Rattle.clj_script.specs.declared.expr.Expr.TheVariants as node
 use Rattle.clj_script.specs.Arena as arena
-use Rattle.clj_script.specs.Seen.{numbered}
+use Rattle.clj_script.specs.Seen.{numbered, body_in, body_of}
 use Rattle.clj_script.proofs.ArenaLemmas.{at-kept, all_at-kept, below_more, no_item, no_item_there, trees-length, read_behind}
 use Rattle.clj_script.specs.Trees as tree
 use Rattle.clj_script.specs.Arena.{AllBelow, trees_behind, LowerFrom}
@@ -130,6 +132,21 @@ pub body_there : (bound : ℕ) (bodies : List Body) (i : ℕ) (body : Body) → 
 body_there bound [] i body b e = absurd (no_item i body e)
 body_there bound (x ∷ bodies) zero body b e = let h : x ≡ body = (cc) in subst (λ (y : Body). y.expr < bound) h b.0
 body_there bound (x ∷ bodies) (suc i) body b e = body_there bound bodies i body b.1 e
+
+pub body_below : (bound : ℕ) (bodies : List Body) (i : ℕ) (other : Body) → AllBelow bound (numbers_of_bodies bodies) → i < length bodies → (slice_index_or bodies i other).expr < bound
+body_below bound [] i other b h = absurd (omega arith)
+body_below bound (x ∷ bodies) zero other b h = b.0
+body_below bound (x ∷ bodies) (suc i) other b h = body_below bound bodies i other b.1 (omega arith)
+
+-- a function's body is there, where each of the function's bodies is
+pub function_there : (o : Option ℕ) (es : List Expr) (fs : List (Vec Body Global)) (i : ℕ) (f : Vec Body Global) (bodies : List Body) → AreBodiesBelow (length es) (λ bodies. bodies.items) fs → slice_get fs i ≡ Some f → bodies ≡ f.items → ((bound : ℕ) → AllBelow bound (numbers_of_bodies bodies) → IfSome o (λ n. n < bound)) → IfSome o (λ n. n < length (trees_of es))
+function_there o es fs i f bodies b e g h =
+    let below : AllBelow (length es) (numbers_of_bodies bodies) = subst (λ (bs : List Body). AllBelow (length es) (numbers_of_bodies bs)) (sym g) (bodies_there (length es) (λ (bodies : Vec Body Global). bodies.items) fs i f b e) in
+    subst (λ (m : ℕ). IfSome o (λ n. n < m)) (sym (nodes-length es)) (h (length es) below)
+
+-- a function that isn't there has no body
+pub no_function : {F : Type 0} (bodies_of : F → List (ℕ × tree.Expr)) (fs : List F) (i count : ℕ) → slice_get fs i ≡ None → None ≡ body_of (map bodies_of fs) i count
+no_function bodies_of fs i count e = sym (ap (λ o. body_in o count) (mapped_item bodies_of fs i ∙ ap (option_map bodies_of) e))
 
 writable_at : (es : List Expr) (n : ℕ) (e : Expr) → are_writable es ≡ true → slice_get es n ≡ Some e → is_writable e ≡ true
 writable_at [] n e h f = absurd (no_item n e f)

@@ -26,7 +26,7 @@ pub fn refused_or_meant()
     ensures { (bytes : List ℕ) →
         ((r : ReadRefusal) × IsRefused bytes r)
         ⊎ ((forms : List Form) × IsScript bytes forms
-            × (((r : ScriptRefusal) × IsRefusal forms r) ⊎ ((program : tree.Program) × Means forms program []))) }
+        × (((r : ScriptRefusal) × IsRefusal forms r) ⊎ ((program : tree.Program) × Means forms program []))) }
 {
     script_or_refused();
 }

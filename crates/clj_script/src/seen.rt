@@ -62,7 +62,7 @@ impl Program {
         // The expression is there.
         ensures below { IfSome result (λ n. n < length (trees self.now)) }
     {
-        match self.parts.get().functions.get(function as usize) {
+        match item(self.parts.get().functions.as_slice(), function as usize) {
             Some(bodies) => body_for(bodies.as_slice(), arguments),
             None => None,
         }
@@ -75,7 +75,7 @@ impl Program {
         // The expression is there.
         ensures below { IfSome result (λ n. n < length (trees self.now)) }
     {
-        self.parts.get().bodies.get(body as usize).copied()
+        item(self.parts.get().bodies.as_slice(), body as usize).copied()
     }
 
     /// The same program for one more owner.
@@ -88,6 +88,7 @@ impl Program {
 }
 
 /// The expression of the first body for that number of arguments.
+#[tactic(auto, using(crate::proofs::SeenLemmas::body_below))]
 fn body_for(bodies: &[Body], arguments: u32) -> Option<u32>
     ensures tree { (ts : List tree.Expr) → option_map (at ts) result ≡ body_among (map (body_over ts) bodies.now) arguments }
     ensures below { (bound : ℕ) → AllBelow bound (numbers_of_bodies bodies.now) → IfSome result (λ n. n < bound) }

@@ -9,4 +9,4 @@ pub returns-clause-lower : goal.returns-clause-lower
 returns-clause-lower c = shown_lower _ c.args.self.now.parts.nodes.items _ c.args.self.now.parts.lower (search rules)
 
 pub returns-clause-written : goal.returns-clause-written
-returns-clause-written c = written_there _ c.args.self.now.parts.nodes.items _ c.args.self.now.parts.written (search rules)
+returns-clause-written c = written_there _ c.args.self.now.parts.nodes.items c.args.number c.args.self.now.parts.written (search rules)
