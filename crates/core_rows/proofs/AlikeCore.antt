@@ -9,7 +9,7 @@ use Rattle.seq_plan.specs.Plan.{Plan}
 use Rattle.seq_plan.specs.Alike.{Likeness, Like, like_nil, like_bool, like_int, like_keyword, like_text, like_vector, like_function, like_reduced, LikeList, like_end, like_item, LikePlan, like_call, like_give, like_throw}
 use Rattle.seq_plan.proofs.AlikeNodes.{like-cond, like-values, like-append, like-give_value, like-with_members}
 use Rattle.seq_plan.proofs.AlikeLists.{like-give_list, like-of_value}
-use Rattle.seq_plan.proofs.AlikeTests.{like-is_nil, like-holds, like-bools}
+use Rattle.seq_plan.proofs.AlikeTests.{like-is_nil, like-is_truthy, like-bools}
 use Rattle.core_rows.specs.Arithmetic.{also, integers, on_integers, of_any, first_and_others, of_some, of_one, of_two, give_bool, give_int, from_left, minus, unless_zero}
 use Rattle.seq_plan.proofs.AlikeStages.{like-has_stages}
 use Rattle.core_rows.specs.Table.{is_true, is_false, is_number, is_keyword, is_text, is_vector, is_function, is_reduced, unreduced, tells, give_function, give_vector, binds_one, partial, comp, completing, monoid, core_call, composed, comp_call, completing_call, monoid_call, core_function}
@@ -161,7 +161,7 @@ module _ {C D : Type 0} {R : Likeness C D} where
   like-core_call B.IsSome h = like-tells (λ v w e. ap not (like-is_nil e)) h
   like-core_call B.IsTrue h = like-tells like-is_true h
   like-core_call B.IsFalse h = like-tells like-is_false h
-  like-core_call B.Not h = like-tells (λ v w e. ap not (like-holds e)) h
+  like-core_call B.Not h = like-tells (λ v w e. ap not (like-is_truthy e)) h
   like-core_call B.IsNumber h = like-tells like-is_number h
   like-core_call B.IsKeyword h = like-tells like-is_keyword h
   like-core_call B.IsString h = like-tells like-is_text h
@@ -210,7 +210,7 @@ module _ {C D : Type 0} {R : Likeness C D} where
   pub like-core_function : (t : Target) {bs : List (Value C)} {cs : List (Value D)} → LikeList R bs cs → {xs : List (Value C)} {ys : List (Value D)} → LikeList R xs ys → LikePlan R (core_function t bs xs) (core_function t cs ys)
   like-core_function T.Partial (like_item f bs) q = like-with_members (like-append bs q) (λ vs ws e. like_call f e (λ v w i. like_give i))
   like-core_function T.Comp p q = like-comp_function p q
-  like-core_function T.Complement (like_item f like_end) q = like_call f q (λ v w e. like-give_bool (ap not (like-holds e)))
+  like-core_function T.Complement (like_item f like_end) q = like_call f q (λ v w e. like-give_bool (ap not (like-is_truthy e)))
   like-core_function T.Constantly (like_item x like_end) q = like_give x
   like-core_function T.Completing p q = like-completing_call p q
   like-core_function T.Monoid p q = like-monoid_call p q

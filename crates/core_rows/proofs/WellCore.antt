@@ -7,7 +7,7 @@ use Rattle.seq_values.specs.declared.words.Target.{Target}
 use Rattle.seq_values.specs.declared.words.Target.TheVariants as T
 use Rattle.seq_values.specs.Model.{Value, vector, function, values}
 use Rattle.seq_plan.specs.Plan.{Plan, call, give}
-use Rattle.seq_plan.specs.Nodes.{holds, is_nil, give_value}
+use Rattle.seq_plan.specs.Nodes.{is_truthy, is_nil, give_value}
 use Rattle.seq_plan.specs.Stages.{has_stages}
 use Rattle.seq_plan.specs.WellFormed.{sights, Well, well_nil, well_bool, well_int, well_vector, well_function, well_reduced, WellList, well_end, well_item}
 use Rattle.seq_plan.specs.Keeping.{Keeps, keeps_call, keeps_give, keeps_throw}
@@ -125,7 +125,7 @@ module _ {C : Type 0} where
   keeps-core_call B.IsSome h = keeps-tells (λ x. not (is_nil x)) h
   keeps-core_call B.IsTrue h = keeps-tells is_true h
   keeps-core_call B.IsFalse h = keeps-tells is_false h
-  keeps-core_call B.Not h = keeps-tells (λ x. not (holds x)) h
+  keeps-core_call B.Not h = keeps-tells (λ x. not (is_truthy x)) h
   keeps-core_call B.IsNumber h = keeps-tells is_number h
   keeps-core_call B.IsKeyword h = keeps-tells is_keyword h
   keeps-core_call B.IsString h = keeps-tells is_text h

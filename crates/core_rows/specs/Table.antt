@@ -10,7 +10,7 @@ use Rattle.seq_values.specs.declared.words.Target.{Target}
 use Rattle.seq_values.specs.declared.words.Target.TheVariants as T
 use Rattle.seq_values.specs.Model.{Value, bool, int, keyword, text, vector, function, reduced, values}
 use Rattle.seq_plan.specs.Plan.{Plan, call, give, throw}
-use Rattle.seq_plan.specs.Nodes.{holds, is_nil, give_value, with_members}
+use Rattle.seq_plan.specs.Nodes.{is_truthy, is_nil, give_value, with_members}
 use Rattle.seq_plan.specs.Stages.{has_stages}
 use Rattle.seq_plan.specs.Lists.{give_list}
 use Rattle.seq_plan.specs.Arguments.{of_value}
@@ -122,7 +122,7 @@ module _ {C : Type 0} where
   core_call B.IsSome xs = tells (λ x. not (is_nil x)) xs
   core_call B.IsTrue xs = tells is_true xs
   core_call B.IsFalse xs = tells is_false xs
-  core_call B.Not xs = tells (λ x. not (holds x)) xs
+  core_call B.Not xs = tells (λ x. not (is_truthy x)) xs
   core_call B.IsNumber xs = tells is_number xs
   core_call B.IsKeyword xs = tells is_keyword xs
   core_call B.IsString xs = tells is_text xs
@@ -173,7 +173,7 @@ module _ {C : Type 0} where
   abbrev pub core_function : Target → List (Value C) → List (Value C) → Plan C
   core_function T.Partial (f ∷ bs) xs = with_members (bs ++ xs) (λ ys. call f ys give)
   core_function T.Comp fs xs = comp_call (has_stages (function T.Comp (values fs))) fs xs
-  core_function T.Complement (f ∷ []) xs = call f xs (λ y. give_bool (not (holds y)))
+  core_function T.Complement (f ∷ []) xs = call f xs (λ y. give_bool (not (is_truthy y)))
   core_function T.Constantly (x ∷ []) xs = give x
   core_function T.Completing bs xs = completing_call bs xs
   core_function T.Monoid bs xs = monoid_call bs xs

@@ -8,7 +8,7 @@ use Rattle.seq_plan.specs.Alike.{Likeness, Like, like_nil, like_bool, like_int, 
 use Rattle.seq_plan.proofs.AlikeNodes.{like-cond, like-first_of, like-rest_of, like-if_true}
 use Rattle.seq_plan.proofs.AlikePlans.{like-then}
 use Rattle.lazy_rows.specs.Equal.{is_incomparable, holds_elements, same_atom, pair_on, equal_on, equal_round, equal_each, equal_call, unequal_call}
-use Rattle.seq_plan.proofs.AlikeTests.{like-holds, like-is_nil, like-bools, like-cond_round}
+use Rattle.seq_plan.proofs.AlikeTests.{like-is_truthy, like-is_nil, like-bools, like-cond_round}
 
 module _ {C D : Type 0} {R : Likeness C D} where
   like-incomparable : {v : Value C} {w : Value D} → Like R v w → is_incomparable v ≡ is_incomparable w
@@ -54,4 +54,4 @@ module _ {C D : Type 0} {R : Likeness C D} where
 
   pub like-unequal_call : {xs : List (Value C)} {ys : List (Value D)} → LikeList R xs ys → LikePlan R (unequal_call xs) (unequal_call ys)
   like-unequal_call like_end = like_throw
-  like-unequal_call (like_item x h) = like-equal_each h x (λ v w e. like_give (like-bools (ap not (like-holds e))))
+  like-unequal_call (like_item x h) = like-equal_each h x (λ v w e. like_give (like-bools (ap not (like-is_truthy e))))

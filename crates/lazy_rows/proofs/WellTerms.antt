@@ -6,7 +6,7 @@ use Rattle.seq_values.specs.declared.words.Op.{Op}
 use Rattle.seq_values.specs.declared.words.Op.TheVariants as O
 use Rattle.seq_values.specs.Model.{Value, list, values}
 use Rattle.seq_plan.specs.Plan.{Plan}
-use Rattle.seq_plan.specs.Nodes.{deepest, first_of, rest_of, is_nil, holds}
+use Rattle.seq_plan.specs.Nodes.{deepest, first_of, rest_of, is_nil, is_truthy}
 use Rattle.seq_plan.specs.WellFormed.{sights, Well, well_nil, well_int, well_cell, well_cons, well_none, well_more, WellList, well_end, well_item, well_term}
 use Rattle.seq_plan.specs.Keeping.{Grouping, grouping, Keeps, keeps_seq, keeps_call, keeps_go, keeps_make, keeps_give, KeepsRound, keeps_end, keeps_fail, keeps_visits, keeps_calls_for}
 use Rattle.seq_plan.proofs.ShallowLemmas.{one_less, left_of}
@@ -69,7 +69,7 @@ module _ {C : Type 0} where
 
   well-where_true : KeepsSome where_true
   well-where_true x p y well_nil = well_end
-  well-where_true x p y w = by (holds y)
+  well-where_true x p y w = by (is_truthy y)
     where
       by : (b : Bool) → WellList (cond b (x ∷ []) [])
       by true = well_item p well_end

@@ -4,7 +4,7 @@ use Rattle.std.specs.Ordering.{int_eq}
 use Rattle.seq_base.specs.declared.thrown.Thrown.TheVariants.{Arity, BadType}
 use Rattle.seq_values.specs.Model.{Value, nil, bool, int, keyword, text, vector, function, reduced, cell, empty, cons, chunk, range, vec_seq}
 use Rattle.seq_plan.specs.Plan.{Plan, visit, seq, go, give, throw, then, equal_from, Round, ends_with, fails, visits}
-use Rattle.seq_plan.specs.Nodes.{first_of, rest_of, holds, is_nil, if_true}
+use Rattle.seq_plan.specs.Nodes.{first_of, rest_of, is_truthy, is_nil, if_true}
 
 abbrev pub same_truth : Bool → Bool → Bool
 same_truth true b = b
@@ -71,4 +71,4 @@ module _ {C : Type 0} where
   -- `not=`
   abbrev pub unequal_call : List (Value C) → Plan C
   unequal_call [] = throw Arity
-  unequal_call (x ∷ xs) = equal_each x xs (λ b. give (bool (not (holds b))))
+  unequal_call (x ∷ xs) = equal_each x xs (λ b. give (bool (not (is_truthy b))))

@@ -7,7 +7,7 @@ use Rattle.seq_values.specs.declared.words.Op.{Op}
 use Rattle.seq_values.specs.declared.words.Op.TheVariants as O
 use Rattle.seq_values.specs.Model.{Value, nil, int, vector, cell, no_values, list, values}
 use Rattle.seq_plan.specs.Plan.{Plan, seq, call, go, give, drop_from, drop_while_from, parts_from, Round, ends_with, fails, visits, calls_for}
-use Rattle.seq_plan.specs.Nodes.{first_of, rest_of, chunk_of, holds, is_nil, if_true, if_nil, round_at, with_members, make_term, call_each}
+use Rattle.seq_plan.specs.Nodes.{first_of, rest_of, chunk_of, is_truthy, is_nil, if_true, if_nil, round_at, with_members, make_term, call_each}
 use Rattle.seq_plan.specs.Lists.{list_of, lazily, first_and, items_and, with_seq}
 
 module _ {C : Type 0} where
@@ -39,7 +39,7 @@ module _ {C : Type 0} where
 
   -- of an element and what f gives of it: the element where that is true
   abbrev pub where_true : Value C → Value C → List (Value C)
-  where_true x y = cond (holds y) (x ∷ []) []
+  where_true x y = cond (is_truthy y) (x ∷ []) []
 
   -- the answer where it isn't nil
   abbrev pub where_some : Value C → Value C → List (Value C)

@@ -11,7 +11,7 @@ use Rattle.seq_plan.specs.Alike.{Likeness, Like, like_nil, like_bool, like_int, 
 use Rattle.seq_plan.proofs.AlikeNodes.{LikeFound, like_now, like_asks_for, like_no_seq, like-found, like-value_at, like-append, like-values, like-list, like-length, like-if_true, like-with_value, like-with_members}
 use Rattle.seq_plan.proofs.AlikePlans.{like-then}
 use Rattle.seq_meaning.specs.Evaluates.{value_of, eval, evals, while_true, until_true, Script, body_in, with_body, called, term_plan, form_plan}
-use Rattle.seq_meaning.specs.Walk.{at_found, Made, Run, Due, enters, asks, also, finish, Rest, at_round, walk_by, answered, spent, walk}
+use Rattle.seq_meaning.specs.Walk.{at_found, Made, Run, Due, enters, asks, also, finish, Rest, at_round, walk_by, meets_answer, spent, walk}
 use Rattle.seq_meaning.specs.Alike.{LikeMade, like_made, like_no_make, like_make_then, LikeRun, like_needs, like_ends, like_over, LikeAnswers, like_no_answer, like_answer, LikeScript, like_script}
 
 pub data LikeDue {C D : Type 0} (R : Likeness C D) : Due C → Due D → Type 0 where
@@ -113,13 +113,13 @@ module _ {C D : Type 0} (R : Likeness C D) {s : Script C} {s' : Script D} (hs : 
   like-walk_by due due' hd (like_give e) j os ps h = like-finish (like_gave e) h
   like-walk_by due due' hd like_throw j os ps h = like-finish like_threw h
 
-  like-answered : (on : Plan C → Rest C) (on' : Plan D → Rest D) → ((p : Plan C) (q : Plan D) → LikePlan R p q → LikeRest R (on p) (on' q)) → (d : Due C) (d' : Due D) → LikeDue R d d' → LikeRest R (answered s cell_of on d) (answered s' cell_of' on' d')
-  like-answered on on' f _ _ (like_enters p) j os ps h = f _ _ p j os ps h
-  like-answered on on' f _ _ (like_asks r p) j _ _ like_no_answer = like_needs r like_no_make
-  like-answered on on' f _ _ (like_asks r p) j _ _ (like_answer (like_gave e) h) = f _ _ (p _ _ e) j _ _ h
-  like-answered on on' f _ _ (like_asks r p) j _ _ (like_answer like_threw h) = like-finish like_threw h
+  like-meets_answer : (on : Plan C → Rest C) (on' : Plan D → Rest D) → ((p : Plan C) (q : Plan D) → LikePlan R p q → LikeRest R (on p) (on' q)) → (d : Due C) (d' : Due D) → LikeDue R d d' → LikeRest R (meets_answer s cell_of on d) (meets_answer s' cell_of' on' d')
+  like-meets_answer on on' f _ _ (like_enters p) j os ps h = f _ _ p j os ps h
+  like-meets_answer on on' f _ _ (like_asks r p) j _ _ like_no_answer = like_needs r like_no_make
+  like-meets_answer on on' f _ _ (like_asks r p) j _ _ (like_answer (like_gave e) h) = f _ _ (p _ _ e) j _ _ h
+  like-meets_answer on on' f _ _ (like_asks r p) j _ _ (like_answer like_threw h) = like-finish like_threw h
 
   pub like-walk : (n : ℕ) {p : Plan C} {q : Plan D} → LikePlan R p q → LikeRest R (walk s cell_of n p) (walk s' cell_of' n q)
   unfolding walk
   like-walk zero e = like-walk_by (spent s cell_of) (spent s' cell_of') (λ d d' e j os ps h. like-finish like_threw h) e
-  like-walk (suc n) e = like-walk_by (answered s cell_of (walk s cell_of n)) (answered s' cell_of' (walk s' cell_of' n)) (like-answered (walk s cell_of n) (walk s' cell_of' n) (λ p q e. like-walk n e)) e
+  like-walk (suc n) e = like-walk_by (meets_answer s cell_of (walk s cell_of n)) (meets_answer s' cell_of' (walk s' cell_of' n)) (like-meets_answer (walk s cell_of n) (walk s' cell_of' n) (λ p q e. like-walk n e)) e

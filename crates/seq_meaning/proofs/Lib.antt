@@ -14,6 +14,9 @@ pub mod WorkedEndless
 pub mod Closing
 pub mod TrailsAlike
 pub mod TrailsTrue
+pub mod Makes
+pub mod NamedTrails
+pub mod Referring
 pub mod SoundRuns
 pub mod WellPrints
 pub mod WellWalk

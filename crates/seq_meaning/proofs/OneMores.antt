@@ -5,7 +5,7 @@ use Rattle.seq_values.specs.Model.{Outcome, gave, threw}
 use Rattle.seq_plan.specs.Plan.{Plan, visit, ask, seq, call, go, make, give, throw, then, ends_with, fails, visits, calls_for}
 use Rattle.seq_plan.specs.Nodes.{now, asks_for, no_seq, found}
 use Rattle.seq_meaning.specs.Evaluates.{Script, called}
-use Rattle.seq_meaning.specs.Walk.{at_found, Made, made, Run, needs, ends, Due, enters, asks, also, finish, Rest, at_round, walk_by, answered, spent, walk}
+use Rattle.seq_meaning.specs.Walk.{at_found, Made, made, Run, needs, ends, Due, enters, asks, also, finish, Rest, at_round, walk_by, meets_answer, spent, walk}
 use Rattle.seq_meaning.specs.More.{OneMore, needs_next, ends_next, ends_at_once, left_one, left_more}
 
 -- nothing is left
@@ -62,15 +62,15 @@ module _ {C : Type 0} (script : Script C) (cell_of : ℕ → C) where
   fresh-walk_by due hd (give v) j = at_end
   fresh-walk_by due hd (throw e) j = at_end
 
-  fresh-answered : (on : Plan C → Rest C) → ((p : Plan C) → Fresh (on p)) → (d : Due C) → Fresh (answered script cell_of on d)
-  fresh-answered on h (enters p) j = h p j
-  fresh-answered on h (asks c k) j = in_need
+  fresh-meets_answer : (on : Plan C → Rest C) → ((p : Plan C) → Fresh (on p)) → (d : Due C) → Fresh (meets_answer script cell_of on d)
+  fresh-meets_answer on h (enters p) j = h p j
+  fresh-meets_answer on h (asks c k) j = in_need
 
   -- a walk without answers leaves none
   pub fresh-walk : (n : ℕ) (p : Plan C) → Fresh (walk script cell_of n p)
   unfolding walk
   fresh-walk zero p = fresh-walk_by (spent script cell_of) (λ d j. at_end) p
-  fresh-walk (suc n) p = fresh-walk_by (answered script cell_of (walk script cell_of n)) (fresh-answered (walk script cell_of n) (fresh-walk n)) p
+  fresh-walk (suc n) p = fresh-walk_by (meets_answer script cell_of (walk script cell_of n)) (fresh-meets_answer (walk script cell_of n) (fresh-walk n)) p
 
   more-walk_by : (due : Due C → Rest C) → ((d : Due C) → Grows (due d)) → (p : Plan C) → Grows (walk_by script cell_of due p)
   more-walk_by due hd (visit p) j os a = hd (enters p) j os a
@@ -97,14 +97,14 @@ module _ {C : Type 0} (script : Script C) (cell_of : ℕ → C) where
   more-walk_by due hd (give v) j os a = more-finish (gave v) os a
   more-walk_by due hd (throw e) j os a = more-finish (threw e) os a
 
-  more-answered : (on : Plan C → Rest C) → ((p : Plan C) → Fresh (on p)) → ((p : Plan C) → Grows (on p)) → (d : Due C) → Grows (answered script cell_of on d)
-  more-answered on f h (enters p) j os a = h p j os a
-  more-answered on f h (asks c k) j [] (gave v) = more-needed v c (f (k v) j)
-  more-answered on f h (asks c k) j [] (threw e) = ends_at_once
-  more-answered on f h (asks c k) j (gave v ∷ os) a = h (k v) j os a
-  more-answered on f h (asks c k) j (threw e ∷ os) a = more-finish (threw e) os a
+  more-meets_answer : (on : Plan C → Rest C) → ((p : Plan C) → Fresh (on p)) → ((p : Plan C) → Grows (on p)) → (d : Due C) → Grows (meets_answer script cell_of on d)
+  more-meets_answer on f h (enters p) j os a = h p j os a
+  more-meets_answer on f h (asks c k) j [] (gave v) = more-needed v c (f (k v) j)
+  more-meets_answer on f h (asks c k) j [] (threw e) = ends_at_once
+  more-meets_answer on f h (asks c k) j (gave v ∷ os) a = h (k v) j os a
+  more-meets_answer on f h (asks c k) j (threw e ∷ os) a = more-finish (threw e) os a
 
   pub more-walk : (n : ℕ) (p : Plan C) → Grows (walk script cell_of n p)
   unfolding walk
   more-walk zero p = more-walk_by (spent script cell_of) (λ d j os a. more-finish (threw Steps) os a) p
-  more-walk (suc n) p = more-walk_by (answered script cell_of (walk script cell_of n)) (more-answered (walk script cell_of n) (fresh-walk n) (more-walk n)) p
+  more-walk (suc n) p = more-walk_by (meets_answer script cell_of (walk script cell_of n)) (more-meets_answer (walk script cell_of n) (fresh-walk n) (more-walk n)) p

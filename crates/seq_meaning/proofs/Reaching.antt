@@ -5,7 +5,7 @@ use Rattle.seq_values.specs.declared.words.Kind.{Kind}
 use Rattle.seq_values.specs.Model.{Value, Term, Outcome, gave, threw}
 use Rattle.seq_plan.specs.Plan.{Plan, visit, ask, call, go, make, give, throw, then, plan_of, ends_with, fails, visits, calls_for, opened}
 use Rattle.seq_meaning.specs.Evaluates.{Script, called}
-use Rattle.seq_meaning.specs.Walk.{Made, made, Run, needs, ends, Due, enters, also, finish, Rest, at_round, walk_by, answered, spent, walk}
+use Rattle.seq_meaning.specs.Walk.{Made, made, Run, needs, ends, Due, enters, also, finish, Rest, at_round, walk_by, meets_answer, spent, walk}
 use Rattle.seq_meaning.specs.Reached.{also_all, Reached}
 
 module _ {C : Type 0} (script : Script C) (cell_of : ℕ → C) where
@@ -24,7 +24,7 @@ module _ {C : Type 0} (script : Script C) (cell_of : ℕ → C) where
   pub walk-opened : (n : ℕ) (p : Plan C) (j : ℕ) (os : List (Outcome C)) → walk script cell_of n (opened script.rules.on_loop p) j os ≡ walk script cell_of n p j os
   unfolding walk
   walk-opened zero p j os = by-opened (spent script cell_of) p j os
-  walk-opened (suc n) p j os = by-opened (answered script cell_of (walk script cell_of n)) p j os
+  walk-opened (suc n) p j os = by-opened (meets_answer script cell_of (walk script cell_of n)) p j os
 
   also_all-push : (ms : List (Made C)) (m : Made C) (r : Run C) → also_all (ms ++ m ∷ []) r ≡ also_all ms (also m r)
   also_all-push [] m r = refl

@@ -7,7 +7,7 @@ use Rattle.seq_plan.specs.Plan.{Plan, ask, seq, give, throw}
 use Rattle.seq_plan.specs.Nodes.{now, asks_for, no_seq, found}
 use Rattle.seq_plan.specs.Silent.{Silently, arrives, opens, finds}
 use Rattle.seq_meaning.specs.Evaluates.{Script}
-use Rattle.seq_meaning.specs.Walk.{at_found, Made, made, needs, ends, walk, finish, asks, walk_by, answered as meets_answer, spent}
+use Rattle.seq_meaning.specs.Walk.{at_found, Made, made, needs, ends, walk, finish, asks, walk_by, meets_answer, spent}
 use Rattle.seq_meaning.specs.Reached.{also_all, Reached}
 use Rattle.seq_meaning.specs.Trail.{Trail, starts, looped, visited, entered, at_once, sought, missed, tired, answered, refused, made_part, IsDue, due_visit, due_ask, due_call, answers_of, mades_of, Calls}
 use Rattle.seq_meaning.proofs.Reaching.{begins, at_opened, after_visit, after_call, after_make, after_answer, at_ask, at_give, at_throw}

@@ -15,7 +15,7 @@ use Rattle.seq_plan.specs.Keeping.{Variables, Given, Keeps, keeps_visit, keeps_a
 use Rattle.seq_plan.proofs.WellNodes.{WellFound, well_now, well_asks_for, well_no_seq, well-found, well-value_at, well-append, well-values, well-list, keeps-if_true, keeps-with_value, keeps-with_members}
 use Rattle.seq_plan.proofs.WellPlans.{keeps-then}
 use Rattle.seq_meaning.specs.Evaluates.{value_of, eval, evals, while_true, until_true, Script, body_in, with_body, called, term_plan, form_plan}
-use Rattle.seq_meaning.specs.Walk.{at_found, Made, made, Run, needs, ends, over, Due, enters, asks, also, finish, Rest, at_round, walk_by, answered, spent, walk}
+use Rattle.seq_meaning.specs.Walk.{at_found, Made, made, Run, needs, ends, over, Due, enters, asks, also, finish, Rest, at_round, walk_by, meets_answer, spent, walk}
 
 pub data WellOutcome {C : Type 0} : Outcome C → Type 0 where
   well_gave : {v : Value C} → Well v → WellOutcome (gave v)
@@ -139,13 +139,13 @@ module _ {C : Type 0} {s : Script C} (hs : KeepsScript s) (cell_of : ℕ → C) 
   keeps-walk_by due hd (keeps_give w) j os h = keeps-finish (well_gave w) os
   keeps-walk_by due hd keeps_throw j os h = keeps-finish well_threw os
 
-  keeps-answered : (on : Plan C → Rest C) → ((p : Plan C) → Keeps Well p → WellRest (on p)) → (d : Due C) → KeepsDue d → WellRest (answered s cell_of on d)
-  keeps-answered on f _ (keeps_enters p) j os h = f _ p j os h
-  keeps-answered on f _ (keeps_asks p) j _ well_no_answer = well_needs well_no_make
-  keeps-answered on f _ (keeps_asks p) j _ (well_answer (well_gave w) h) = f _ (p _ w) j _ h
-  keeps-answered on f _ (keeps_asks p) j _ (well_answer {os = os} well_threw h) = keeps-finish well_threw os
+  keeps-meets_answer : (on : Plan C → Rest C) → ((p : Plan C) → Keeps Well p → WellRest (on p)) → (d : Due C) → KeepsDue d → WellRest (meets_answer s cell_of on d)
+  keeps-meets_answer on f _ (keeps_enters p) j os h = f _ p j os h
+  keeps-meets_answer on f _ (keeps_asks p) j _ well_no_answer = well_needs well_no_make
+  keeps-meets_answer on f _ (keeps_asks p) j _ (well_answer (well_gave w) h) = f _ (p _ w) j _ h
+  keeps-meets_answer on f _ (keeps_asks p) j _ (well_answer {os = os} well_threw h) = keeps-finish well_threw os
 
   pub keeps-walk : (n : ℕ) {p : Plan C} → Keeps Well p → WellRest (walk s cell_of n p)
   unfolding walk
   keeps-walk zero e = keeps-walk_by (spent s cell_of) (λ d e j os h. keeps-finish well_threw os) e
-  keeps-walk (suc n) e = keeps-walk_by (answered s cell_of (walk s cell_of n)) (keeps-answered (walk s cell_of n) (λ p e. keeps-walk n e)) e
+  keeps-walk (suc n) e = keeps-walk_by (meets_answer s cell_of (walk s cell_of n)) (keeps-meets_answer (walk s cell_of n) (λ p e. keeps-walk n e)) e

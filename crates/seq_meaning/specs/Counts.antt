@@ -55,10 +55,6 @@ pub data HasSize {A : Type 0} (P : A → Type 0) (size : ℕ) : Type 0 where
 abbrev pub HasAtMost : {A : Type 0} → (A → Type 0) → ℕ → Type 0
 HasAtMost {A} P size = (l : List A) → Distinct l → ((x : A) → IsIn x l → P x) → length l ≤ size
 
--- the set has more members than so many
-abbrev pub HasOver : {A : Type 0} → (A → Type 0) → ℕ → Type 0
-HasOver {A} P size = (l : List A) × Distinct l × ((x : A) → IsIn x l → P x) × (size < length l)
-
 -- the parts made by the first k forms stay within the cell limit
-abbrev pub Fits : Rules Name → Program → ℕ → ℕ → ℕ → Type 0
-Fits rules program limit cells k = HasAtMost (MadeBy rules program limit k) cells
+abbrev pub FormsFit : Rules Name → Program → ℕ → ℕ → ℕ → Type 0
+FormsFit rules program limit cells k = HasAtMost (MadeBy rules program limit k) cells

@@ -1,27 +1,28 @@
 -- The laws over the definitions, as statements. They hold of every table of rules, but for those that ask that the rules rename.
-use Rattle.std.specs.Prelude.{◌≡◌, ℕ, suc, Bool, true, List, ◌∷◌, ◌++◌, length, ◌⊎◌}
+use Rattle.std.specs.Prelude.{◌≡◌, ℕ, suc, Bool, true, List, ◌∷◌, ◌++◌, length, Some, slice_get, ◌⊎◌}
 use Rattle.seq_base.specs.declared.thrown.Thrown.{Thrown}
 use Rattle.seq_values.specs.declared.words.Kind.{Kind}
 use Rattle.seq_values.specs.declared.words.Kind.TheVariants.{Lazy}
 use Rattle.seq_values.specs.Model.{Value, Term, Outcome, gave, threw}
 use Rattle.clj_script.specs.Trees.{Program}
-use Rattle.seq_plan.specs.Plan.{Rules, Plan, ask, give, throw}
+use Rattle.seq_plan.specs.Plan.{Rules, Plan, ask, make, give, throw}
 use Rattle.seq_plan.specs.Alike.{Tells, LikePlan}
 use Rattle.seq_plan.specs.Silent.{Silently}
 use Rattle.seq_plan.specs.Sound.{Sound, SoundList, SoundRules}
 use Rattle.seq_plan.specs.WellFormed.{Well, WellList, WellTerm}
 use Rattle.seq_plan.specs.Keeping.{KeepsRules}
 use Rattle.seq_meaning.specs.Evaluates.{Script}
-use Rattle.seq_meaning.specs.Walk.{Made, needs, ends, makes_of, walk}
+use Rattle.seq_meaning.specs.Walk.{Made, made, needs, ends, makes_of, walk}
 use Rattle.seq_meaning.specs.Names.{Name, part, retry}
-use Rattle.seq_meaning.specs.Gives.{Work, work, Task, of_term, in_order, script_of, task_plan, run, Of, Part, True, Gives}
+use Rattle.seq_meaning.specs.Gives.{Work, work, Task, of_term, script_of, task_plan, run, Of, Part, True, Gives, Before}
 use Rattle.seq_meaning.specs.Alike.{LikeScript, LikeAnswers, LikeRun}
 use Rattle.seq_meaning.specs.Twins.{TwinEval, twin_cells, LikeWork, Renames}
 use Rattle.seq_meaning.specs.Counts.{IsIn}
-use Rattle.seq_meaning.specs.Follows.{Follows, HasLikes}
+use Rattle.seq_meaning.specs.Referred.{referred}
 use Rattle.seq_meaning.specs.More.{OneMore, IsDefined}
 use Rattle.seq_meaning.specs.Reached.{Reached}
 use Rattle.seq_meaning.specs.Trail.{Trail, answers_of, mades_of, Calls}
+use Rattle.seq_meaning.specs.TrueTrail.{TrueSo}
 
 -- each name has at most one work
 abbrev pub OneWork : Type 0
@@ -98,10 +99,14 @@ TrailThrows = (script : Script ℕ) (limit : ℕ) (whole : Plan ℕ) (n : ℕ) (
 abbrev pub TrailPasses : Type 0
 TrailPasses = (script : Script ℕ) (limit : ℕ) (whole : Plan ℕ) (n : ℕ) (p q : Plan ℕ) (asked : List (ℕ × Outcome ℕ)) (mades : List (ℕ × Made ℕ)) → Trail script limit whole n p asked mades → Silently script.rules.on_loop p q → Trail script limit whole n q asked mades
 
--- A trail in numbers, whose answers are given by the names of the parts that were asked and whose makes have names, goes the same way in names. The test tells which name a number has.
-abbrev pub TrailInNames : Type 0
-TrailInNames = (rules : Rules Name) (program : Program) (limit : ℕ) (test : ℕ → Name → Bool) (s : Script ℕ) (t : Script Name) (whole : Plan ℕ) (other : Plan Name) (n : ℕ) (p : Plan ℕ) (asked : List (ℕ × Outcome ℕ)) (mades : List (ℕ × Made ℕ)) → LikeScript (Tells test) s t → LikePlan (Tells test) whole other → Trail s limit whole n p asked mades → HasLikes (Tells test) (Gives rules program limit) asked mades → Follows (Tells test) (Gives rules program limit) t limit other n p asked mades
-
--- A trail of an evaluation's work in its own names, whose answers are given by the parts that were asked, has true answers.
+-- A trail of an evaluation's work in its own names, whose answers are given by the parts that were asked, has true answers, and each came to the ask of such a part.
 abbrev pub TrailIsTrue : Type 0
-TrailIsTrue = (rules : Rules Name) (program : Program) (limit : ℕ) (e : Name) (defs : List (Value Name)) (task : Task) (n : ℕ) (p : Plan Name) (asked : List (Name × Outcome Name)) (mades : List (Name × Made Name)) → Of rules program limit e (work defs task) → Trail (script_of rules program limit defs) limit (task_plan rules program limit defs task) n p asked mades → Calls (λ j. part e j) mades → ((c : Name) (o : Outcome Name) → IsIn (c, o) asked → Gives rules program limit c o) → (a : List (Outcome Name)) × True rules program limit e a × (in_order a ≡ answers_of asked)
+TrailIsTrue = (rules : Rules Name) (program : Program) (limit : ℕ) (e : Name) (defs : List (Value Name)) (task : Task) (n : ℕ) (p : Plan Name) (asked : List (Name × Outcome Name)) (mades : List (Name × Made Name)) → Of rules program limit e (work defs task) → Trail (script_of rules program limit defs) limit (task_plan rules program limit defs task) n p asked mades → Calls (λ j. part e j) mades → ((c : Name) (o : Outcome Name) → IsIn (c, o) asked → Gives rules program limit c o) → TrueSo rules program limit e (work defs task) asked
+
+-- Where a trail comes to a make, the walk on its answers makes that next.
+abbrev pub TrailMakes : Type 0
+TrailMakes = (script : Script ℕ) (limit : ℕ) (whole : Plan ℕ) (n : ℕ) (kind : Kind) (t : Term ℕ) (k : ℕ → Plan ℕ) (asked : List (ℕ × Outcome ℕ)) (mades : List (ℕ × Made ℕ)) → Trail script limit whole n (make kind t k) asked mades → (cell_of : ℕ → ℕ) → Calls cell_of mades → slice_get (makes_of (walk script cell_of limit whole 1 (answers_of asked))) (length mades) ≡ Some (made kind t)
+
+-- The values of the first k forms are k, and they are what references see of themselves.
+abbrev pub BeforeIsReferred : Type 0
+BeforeIsReferred = (rules : Rules Name) (program : Program) (limit k : ℕ) (defs : List (Value Name)) → Before rules program limit k defs → (length defs ≡ k) × (referred program.tops defs ≡ defs)

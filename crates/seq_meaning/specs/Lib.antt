@@ -12,4 +12,7 @@ pub mod Prints
 pub mod SmallTable
 pub mod Worked
 pub mod Follows
+pub mod TrueTrail
+pub mod Renamed
+pub mod Referred
 pub mod Laws

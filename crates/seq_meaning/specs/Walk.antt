@@ -75,11 +75,11 @@ module _ {C : Type 0} (script : Script C) (cell_of : ℕ → C) where
   walk_by due (throw e) j os = finish (threw e) os
 
   -- an ask meets the next answer; a thrown answer ends the walk with that error
-  abbrev pub answered : (Plan C → Rest C) → Due C → Rest C
-  answered on (enters p) j os = on p j os
-  answered on (asks c k) j [] = needs c []
-  answered on (asks c k) j (gave v ∷ os) = on (k v) j os
-  answered on (asks c k) j (threw e ∷ os) = finish (threw e) os
+  abbrev pub meets_answer : (Plan C → Rest C) → Due C → Rest C
+  meets_answer on (enters p) j os = on p j os
+  meets_answer on (asks c k) j [] = needs c []
+  meets_answer on (asks c k) j (gave v ∷ os) = on (k v) j os
+  meets_answer on (asks c k) j (threw e ∷ os) = finish (threw e) os
 
   -- a step is due, and none is left
   abbrev pub spent : Due C → Rest C
@@ -88,4 +88,4 @@ module _ {C : Type 0} (script : Script C) (cell_of : ℕ → C) where
   -- the walk with so many own steps left
   unfoldable pub walk : ℕ → Plan C → Rest C
   walk zero = walk_by spent
-  walk (suc n) = walk_by (answered (walk n))
+  walk (suc n) = walk_by (meets_answer (walk n))

@@ -1,7 +1,10 @@
 //! The meaning of a program. Each function states a law over the definitions.
 #![tactic(auto)]
 
-ghost use Rattle.seq_meaning.specs.Laws.{OneWork, OnePart, OneOutcome, OneAnswer, OneOrder, RunDefined, RunGoesOn, NoneAfterThrow, MakesGrow, RunsRename, TwinsRunAlike, RetryThrows, AllIsSound, AllIsWell, TrailRuns, TrailNeeds, TrailGives, TrailThrows, TrailPasses, TrailInNames, TrailIsTrue};
+ghost use Rattle.std.specs.Prelude.{ℕ};
+ghost use Rattle.seq_meaning.specs.Laws.{OneWork, OnePart, OneOutcome, OneAnswer, OneOrder, RunDefined, RunGoesOn, NoneAfterThrow, MakesGrow, RunsRename, TwinsRunAlike, RetryThrows, AllIsSound, AllIsWell, TrailRuns, TrailNeeds, TrailGives, TrailThrows, TrailMakes, TrailPasses, TrailIsTrue, BeforeIsReferred};
+ghost use Rattle.seq_meaning.specs.Renamed.{TrailInNames, NamedNeeds, NamedGives, NamedThrows, NamedMakes};
+ghost use Rattle.seq_meaning.specs.Names.{Name};
 ghost use Rattle.seq_meaning.specs.SmallTable.{SmallRenames};
 ghost use Rattle.seq_meaning.specs.Worked.{SumOfThree, OneMoreThanOne, AskedTwice, WithoutEnd};
 
@@ -100,14 +103,49 @@ pub fn law_trail_passes()
     ensures { TrailPasses }
 {}
 
-/// What was walked in numbers is walked in names.
-pub fn law_trail_in_names()
-    ensures { TrailInNames }
+/// Where the walk comes to a make, that is what the run makes next.
+pub fn law_trail_makes()
+    ensures { TrailMakes }
 {}
 
-/// What was walked in names, with answers that the asked parts give, has true answers.
+/// What was walked in names, with answers that the asked parts give, has true answers, and each came to its ask.
 pub fn law_trail_is_true()
     ensures { TrailIsTrue }
+{}
+
+/// Which numbers of cells are which names. Nothing is asked of it: the laws that take one hold of any.
+pub trait Naming {
+    ghost same: { ℕ → Name → Type 0 };
+}
+
+/// What was walked in numbers, under a name of its evaluation, is walked in names, with true answers.
+pub fn law_trail_in_names<N: Naming>()
+    ensures { TrailInNames N.same }
+{}
+
+/// Where a walk in numbers comes to an ask, the run of the name needs a name of that cell.
+pub fn law_named_needs<N: Naming>()
+    ensures { NamedNeeds N.same }
+{}
+
+/// Where a walk in numbers comes to a value, the name gives a value that is alike.
+pub fn law_named_gives<N: Naming>()
+    ensures { NamedGives N.same }
+{}
+
+/// Where a walk in numbers comes to an error, the name throws it.
+pub fn law_named_throws<N: Naming>()
+    ensures { NamedThrows N.same }
+{}
+
+/// Where a walk in numbers comes to a make, the name's next part is of that kind, with a like term.
+pub fn law_named_makes<N: Naming>()
+    ensures { NamedMakes N.same }
+{}
+
+/// The values of the forms before are what references see of them.
+pub fn law_before_is_referred()
+    ensures { BeforeIsReferred }
 {}
 
 /// A small table of rules, for worked scripts, renames.

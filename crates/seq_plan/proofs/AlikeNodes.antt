@@ -1,10 +1,10 @@
 -- What the rules say of nodes is alike for like nodes.
-use Rattle.std.proofs.Common.{◌≡◌, ℕ, zero, suc, ◌-◌, nat_le, nat_lt, ℤ, pos, ◌+ℤ◌, ◌-ℤ◌, int_lt, int_le, unsigned_abs, Bool, true, false, cond, List, ◌++◌, length, take, drop, Option, Some, None, refl, ap, subst}
+use Rattle.std.proofs.Common.{◌≡◌, ℕ, zero, suc, ◌-◌, nat_le, nat_lt, ℤ, pos, ◌+ℤ◌, int_lt, int_le, Bool, true, false, cond, List, ◌++◌, length, take, drop, Option, Some, None, refl, ap, subst}
 use Rattle.seq_values.specs.Model.{Value, empty, range, vec_seq, Values, list, values}
 use Rattle.seq_plan.specs.Plan.{Plan, Round}
 use Rattle.seq_plan.specs.Sound.{ends_cons}
 use Rattle.seq_plan.proofs.FitLemmas.{fit_at_start, both, first_of_both, second_of_both, le_next, le_stop}
-use Rattle.seq_plan.specs.Nodes.{deepest, longest, range_stop, vector_stop, ints_from, depth, depths, last_or, all_but_last, value_at, or_empty, first_of, with_heads, range_at, vector_at, rest_of, rests_of, chunk_of, if_true, if_nil, round_at, with_value, give_value, with_members, call_each, ask_each, Found, now, asks_for, no_seq, found}
+use Rattle.seq_plan.specs.Nodes.{deepest, longest, range_stop, range_count, vector_stop, ints_from, depth, depths, last_or, all_but_last, value_at, or_empty, first_of, with_heads, range_at, vector_at, rest_of, rests_of, chunk_of, if_true, if_nil, round_at, with_value, give_value, with_members, call_each, ask_each, Found, now, asks_for, no_seq, found}
 use Rattle.seq_plan.specs.Alike.{Likeness, Fit, Like, like_nil, like_bool, like_int, like_keyword, like_text, like_vector, like_function, like_reduced, like_cell, like_empty, like_cons, like_chunk, like_range, like_vec_seq, LikeAll, like_none, like_more, LikeList, like_end, like_item, like_term, LikePlan, like_visit, like_ask, like_seq, like_call, like_go, like_make, like_give, like_throw, LikeRound, like_ends_with, like_fails, like_visits, like_calls_for}
 
 -- two nodes are chunked alike, or neither is
@@ -151,7 +151,7 @@ module _ {C D : Type 0} {R : Likeness C D} where
   pub like-chunk_of : (size : ℕ) {v : Value C} {w : Value D} → Like R v w → LikeChunk R (chunk_of size v) (chunk_of size w)
   like-chunk_of size (like_chunk n h k) = like_chunked (like-list h) k
   like-chunk_of size (like_range {from = from} {at = at} {end = end} n) =
-      like_chunked (like-ints_from at (unsigned_abs (range_stop size from at end -ℤ at))) (like-range_at from (range_stop size from at end) end (λ s. le_stop size from at end (first_of_both _ _ (n s)) (second_of_both (int_le from at) _ (n s))))
+      like_chunked (like-ints_from at (range_count size from at end)) (like-range_at from (range_stop size from at end) end (λ s. le_stop size from at end (first_of_both _ _ (n s)) (second_of_both (int_le from at) _ (n s))))
   like-chunk_of size (like_vec_seq {xs = xs} {ys = ys} {at = at} n h) =
       let stop : ℕ → ℕ = vector_stop size at in
       subst (λ n. LikeChunk R (chunk_to xs at (stop (length (list xs)))) (chunk_to ys at n)) (ap stop (like-length (like-list h))) (like-chunk_to at (stop (length (list xs))) h)

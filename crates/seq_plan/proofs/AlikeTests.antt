@@ -2,7 +2,7 @@
 use Rattle.std.proofs.Common.{◌≡◌, Bool, true, false, cond, refl, subst}
 use Rattle.seq_values.specs.Model.{Value, bool}
 use Rattle.seq_plan.specs.Plan.{Round}
-use Rattle.seq_plan.specs.Nodes.{holds, is_nil}
+use Rattle.seq_plan.specs.Nodes.{is_truthy, is_nil}
 use Rattle.seq_plan.specs.Alike.{Likeness, Like, like_nil, like_bool, LikeRound}
 
 module _ {C D : Type 0} {R : Likeness C D} where
@@ -10,9 +10,9 @@ module _ {C D : Type 0} {R : Likeness C D} where
   like-is_nil like_nil = refl
   like-is_nil _ = refl
 
-  pub like-holds : {v : Value C} {w : Value D} → Like R v w → holds v ≡ holds w
-  like-holds like_nil = refl
-  like-holds _ = refl
+  pub like-is_truthy : {v : Value C} {w : Value D} → Like R v w → is_truthy v ≡ is_truthy w
+  like-is_truthy like_nil = refl
+  like-is_truthy _ = refl
 
   pub like-bools : {a b : Bool} → a ≡ b → Like R (bool a) (bool b)
   like-bools {a = a} e = subst (λ c. Like R (bool a) (bool c)) e like_bool

@@ -1,6 +1,5 @@
 -- Firsts and rests of nodes of which some elements are done.
-use Rattle.std.specs.declared.result.Result.{Result}
-use Rattle.std.proofs.Common.{IfOk, Ok, Err, ◌≡◌, ℕ, zero, suc, ◌+◌, ◌-◌, ◌<◌, ◌≤◌, ℤ, pos, ◌+ℤ◌, List, [], ◌∷◌, length, take, drop, Some, slice_get, nat_lt, true, false, refl, ap, sym, ◌∙◌, rules, arith}
+use Rattle.std.proofs.Common.{◌≡◌, ℕ, zero, suc, ◌+◌, ◌-◌, ◌<◌, ◌≤◌, ℤ, pos, ◌+ℤ◌, List, [], ◌∷◌, length, take, drop, Some, slice_get, nat_lt, true, false, refl, ap, sym, ◌∙◌, rules, arith}
 use Rattle.std.proofs.lemmas.Bool.{lt-ltb, le-ltb}
 use Rattle.std.proofs.lemmas.List.{length-map}
 use Rattle.seq_values.specs.Model as M
@@ -17,14 +16,14 @@ use Rattle.seq_plan.specs.Cursors.{heads_stand, items_stand, range_stand, vector
 
 -- ## What nodes stand for
 
-pub plain_cons : (hs : List Value) (r : Value) → plain (V.Node (N.Cons hs r)) ≡ M.cons (M.values (plains hs)) (plain r)
-plain_cons hs r = search (rules, the_lemmas)
+pub plain_cons : (kept : ℕ) (hs : List Value) (r : Value) → plain (V.Node (N.Cons kept hs r)) ≡ M.cons (M.values (plains hs)) (plain r)
+plain_cons kept hs r = search (rules, the_lemmas)
 
-pub plain_chunk : (xs : List Value) (r : Value) → plain (V.Node (N.Chunk xs r)) ≡ M.chunk (M.values (plains xs)) (plain r)
-plain_chunk xs r = search (rules, the_lemmas)
+pub plain_chunk : (kept : ℕ) (xs : List Value) (r : Value) → plain (V.Node (N.Chunk kept xs r)) ≡ M.chunk (M.values (plains xs)) (plain r)
+plain_chunk kept xs r = search (rules, the_lemmas)
 
-pub plain_vec_seq : (xs : List Value) (at : ℕ) → plain (V.Node (N.VecSeq xs at)) ≡ M.vec_seq (M.values (plains xs)) at
-plain_vec_seq xs at = search (rules, the_lemmas)
+pub plain_vec_seq : (kept : ℕ) (xs : List Value) (at : ℕ) → plain (V.Node (N.VecSeq kept xs at)) ≡ M.vec_seq (M.values (plains xs)) at
+plain_vec_seq kept xs at = search (rules, the_lemmas)
 
 pub list_values : {C : Type 0} (xs : List (M.Value C)) → M.list (M.values xs) ≡ xs
 list_values [] = refl
@@ -33,14 +32,14 @@ list_values (x ∷ xs) = ap (λ l. x ∷ l) (list_values xs)
 pub length_values : (xs : List Value) → length (M.list (M.values (plains xs))) ≡ length xs
 length_values xs = ap length (list_values (plains xs)) ∙ length-map xs plain
 
-pub own_cons : (hs : List Value) (r : Value) → own (plain (V.Node (N.Cons hs r))) ≡ length hs
-own_cons hs r = ap own (plain_cons hs r) ∙ length_values hs
+pub own_cons : (kept : ℕ) (hs : List Value) (r : Value) → own (plain (V.Node (N.Cons kept hs r))) ≡ length hs
+own_cons kept hs r = ap own (plain_cons kept hs r) ∙ length_values hs
 
-pub own_chunk : (xs : List Value) (r : Value) → own (plain (V.Node (N.Chunk xs r))) ≡ length xs
-own_chunk xs r = ap own (plain_chunk xs r) ∙ length_values xs
+pub own_chunk : (kept : ℕ) (xs : List Value) (r : Value) → own (plain (V.Node (N.Chunk kept xs r))) ≡ length xs
+own_chunk kept xs r = ap own (plain_chunk kept xs r) ∙ length_values xs
 
-pub own_vec_seq : (xs : List Value) (at : ℕ) → own (plain (V.Node (N.VecSeq xs at))) ≡ length xs - at
-own_vec_seq xs at = ap own (plain_vec_seq xs at) ∙ ap (λ n. n - at) (length_values xs)
+pub own_vec_seq : (kept : ℕ) (xs : List Value) (at : ℕ) → own (plain (V.Node (N.VecSeq kept xs at))) ≡ length xs - at
+own_vec_seq kept xs at = ap own (plain_vec_seq kept xs at) ∙ ap (λ n. n - at) (length_values xs)
 
 -- ## Heads
 
@@ -49,12 +48,13 @@ last_take h t zero x p = ap plain (cc)
 last_take h [] (suc l) x p = absurd cc
 last_take h (y ∷ t) (suc l) x p = last_take y t l x p
 
-pub first_heads : (hs : List Value) (left : ℕ) (r x : Value) → 0 < left → slice_get hs (left - 1) ≡ Some x → first_of (heads_stand hs left r) ≡ plain x
+pub first_heads : (hs : List Value) (left : ℕ) (r x : Value) → 0 < left → Some x ≡ slice_get hs (left - 1) → plain x ≡ first_of (heads_stand hs left r)
 first_heads hs zero r x b p = absurd (omega arith)
 first_heads [] (suc l) r x b p = absurd cc
 first_heads (h ∷ t) (suc l) r x b p =
     let e : suc l - 1 ≡ l = omega arith in
-    last_take h t l x (rw e at p)
+    let q : slice_get (h ∷ t) l ≡ Some x = sym (p ∙ ap (slice_get (h ∷ t)) e) in
+    sym (last_take h t l x q)
 
 but_last_take : (h : Value) (t : List Value) (l : ℕ) → l ≤ length t → all_but_last (plain h) (M.values (plains (take l t))) ≡ M.values (plains (take l (h ∷ t)))
 but_last_take h t zero b = refl
@@ -81,8 +81,8 @@ drop_at [] k x p = absurd cc
 drop_at (y ∷ xs) zero x p = ap (λ z. z ∷ xs) (cc)
 drop_at (y ∷ xs) (suc k) x p = drop_at xs k x p
 
-pub first_items : (xs : List Value) (k : ℕ) (r x : Value) → slice_get xs k ≡ Some x → first_of (items_stand xs k r) ≡ plain x
-first_items xs k r x p = rw (drop_at xs k x p) refl
+pub first_items : (xs : List Value) (k : ℕ) (r x : Value) → Some x ≡ slice_get xs k → plain x ≡ first_of (items_stand xs k r)
+first_items xs k r x p = rw (drop_at xs k x (sym p)) refl
 
 -- a member stands at each place below the length
 member : (xs : List Value) (k : ℕ) → k < length xs → (x : Value) × (slice_get xs k ≡ Some x)
@@ -115,8 +115,8 @@ value_plain [] k x p = absurd cc
 value_plain (y ∷ xs) zero x p = ap plain (cc)
 value_plain (y ∷ xs) (suc k) x p = value_plain xs k x p
 
-pub first_vector : (xs : List Value) (k : ℕ) (x : Value) → slice_get xs k ≡ Some x → first_of (vector_stand xs k) ≡ plain x
-first_vector xs k x p = value_plain xs k x p
+pub first_vector : (xs : List Value) (k : ℕ) (x : Value) → Some x ≡ slice_get xs k → plain x ≡ first_of (vector_stand xs k)
+first_vector xs k x p = sym (value_plain xs k x (sym p))
 
 pub rest_vector : (xs : List Value) (k : ℕ) → k + 1 < length xs → rest_of (vector_stand xs k) ≡ vector_stand xs (k + 1)
 rest_vector xs k b =
@@ -131,11 +131,6 @@ rest_last_of_vector xs k b =
 
 pub range_next : (from at end : ℤ) → rest_of (range_stand from at end) ≡ range_at from (at +ℤ pos 1) end
 range_next from at end = refl
-
--- a shared value stands for the same
-pub shared_plain : {E : Type 0} (r : Result Value E) (x : Value) (w : M.Value ℕ) → IfOk r (λ v. v ≡ x) → w ≡ plain x → IfOk r (λ v. plain v ≡ w)
-shared_plain (Ok v) x w h e = ap plain h ∙ sym e
-shared_plain (Err e) x w h p = tt
 
 pub plain_empty : plain (V.Node N.Empty) ≡ M.empty
 plain_empty = search (rules, the_lemmas)

@@ -28,7 +28,7 @@ FunctionAgrees f = depth (plain_function f) ≡ D.depth_of_function f
 abbrev With : (A : Type 0) → (A → Type 0) → Type 0
 With A P = (a : A) × P a
 
-all_agree : (xs : List (With Value Agrees)) → depths (M.values (map plain (map (λ x. x.0) xs))) ≡ D.greatest (map D.depth (map (λ x. x.0) xs))
+all_agree : (xs : List (With Value Agrees)) → depths (M.values (map plain (map (λ x. x.0) xs))) ≡ D.deepest (map D.graded (map (λ x. x.0) xs))
 all_agree [] = refl
 all_agree (x ∷ xs) = rw (x.1, all_agree xs)
 
@@ -45,30 +45,30 @@ deeper : (n m : ℕ) → n ≡ m → suc n ≡ m + 1
 deeper n m p = omega (arith, p)
 
 -- one level, on both sides
-node_level : (x : Node-F Node Value FnValue) → depth (node_step (map-Node Node Value FnValue (M.Value ℕ) (M.Value ℕ) (M.Value ℕ) plain_node plain plain_function x)) ≡ D.node_depth (map-Node Node Value FnValue ℕ ℕ ℕ D.depth_of_node D.depth D.depth_of_function x) → NodeAgrees (roll-Node x)
-node_level x e = ap depth (fold-roll-Node (M.Value ℕ) (M.Value ℕ) (M.Value ℕ) node_step value_step function_step x) ∙ e ∙ sym (fold-roll-Node ℕ ℕ ℕ D.node_depth D.value_depth D.function_depth x)
+node_level : (x : Node-F Node Value FnValue) → depth (node_step (map-Node Node Value FnValue (M.Value ℕ) (M.Value ℕ) (M.Value ℕ) plain_node plain plain_function x)) ≡ (D.node_grade (map-Node Node Value FnValue D.Grade D.Grade D.Grade D.graded_node D.graded D.graded_function x)).depth → NodeAgrees (roll-Node x)
+node_level x e = ap depth (fold-roll-Node (M.Value ℕ) (M.Value ℕ) (M.Value ℕ) node_step value_step function_step x) ∙ e ∙ sym (ap (λ g. g.depth) (fold-roll-Node D.Grade D.Grade D.Grade D.node_grade D.value_grade D.function_grade x))
 
-value_level : (x : Value-F Node Value FnValue) → depth (value_step (map-Value Node Value FnValue (M.Value ℕ) (M.Value ℕ) (M.Value ℕ) plain_node plain plain_function x)) ≡ D.value_depth (map-Value Node Value FnValue ℕ ℕ ℕ D.depth_of_node D.depth D.depth_of_function x) → Agrees (roll-Value x)
-value_level x e = ap depth (fold-roll-Value (M.Value ℕ) (M.Value ℕ) (M.Value ℕ) node_step value_step function_step x) ∙ e ∙ sym (fold-roll-Value ℕ ℕ ℕ D.node_depth D.value_depth D.function_depth x)
+value_level : (x : Value-F Node Value FnValue) → depth (value_step (map-Value Node Value FnValue (M.Value ℕ) (M.Value ℕ) (M.Value ℕ) plain_node plain plain_function x)) ≡ (D.value_grade (map-Value Node Value FnValue D.Grade D.Grade D.Grade D.graded_node D.graded D.graded_function x)).depth → Agrees (roll-Value x)
+value_level x e = ap depth (fold-roll-Value (M.Value ℕ) (M.Value ℕ) (M.Value ℕ) node_step value_step function_step x) ∙ e ∙ sym (ap (λ g. g.depth) (fold-roll-Value D.Grade D.Grade D.Grade D.node_grade D.value_grade D.function_grade x))
 
-function_level : (x : FnValue-F Node Value FnValue) → depth (function_step (map-FnValue Node Value FnValue (M.Value ℕ) (M.Value ℕ) (M.Value ℕ) plain_node plain plain_function x)) ≡ D.function_depth (map-FnValue Node Value FnValue ℕ ℕ ℕ D.depth_of_node D.depth D.depth_of_function x) → FunctionAgrees (roll-FnValue x)
-function_level x e = ap depth (fold-roll-FnValue (M.Value ℕ) (M.Value ℕ) (M.Value ℕ) node_step value_step function_step x) ∙ e ∙ sym (fold-roll-FnValue ℕ ℕ ℕ D.node_depth D.value_depth D.function_depth x)
+function_level : (x : FnValue-F Node Value FnValue) → depth (function_step (map-FnValue Node Value FnValue (M.Value ℕ) (M.Value ℕ) (M.Value ℕ) plain_node plain plain_function x)) ≡ (D.function_grade (map-FnValue Node Value FnValue D.Grade D.Grade D.Grade D.graded_node D.graded D.graded_function x)).depth → FunctionAgrees (roll-FnValue x)
+function_level x e = ap depth (fold-roll-FnValue (M.Value ℕ) (M.Value ℕ) (M.Value ℕ) node_step value_step function_step x) ∙ e ∙ sym (ap (λ g. g.depth) (fold-roll-FnValue D.Grade D.Grade D.Grade D.node_grade D.value_grade D.function_grade x))
 
-two_agree : (hs : List ValueIn) (r : ValueIn) → max (depths (M.values (map plain (map (λ e. e.0) hs)))) (depth (plain r.0)) ≡ max (D.greatest (map D.depth (map (λ e. e.0) hs))) (D.depth r.0)
+two_agree : (hs : List ValueIn) (r : ValueIn) → max (depths (M.values (map plain (map (λ e. e.0) hs)))) (depth (plain r.0)) ≡ max (D.deepest (map D.graded (map (λ e. e.0) hs))) (D.depth r.0)
 two_agree hs r = rw (all_agree hs, r.1) refl
 
 node_case : (x : Node-F Node Value FnValue) (y : Node-F NodeIn ValueIn FunctionIn) → map-Node NodeIn ValueIn FunctionIn Node Value FnValue (λ e. e.0) (λ e. e.0) (λ e. e.0) y ≡ x → NodeAgrees (roll-Node x)
 node_case x Node-F.Empty is = subst (λ z. NodeAgrees (roll-Node z)) is (node_level _ refl)
-node_case x (Node-F.Cons hs r) is = subst (λ z. NodeAgrees (roll-Node z)) is (node_level _ (deeper _ _ (two_agree hs r)))
-node_case x (Node-F.Chunk hs r) is = subst (λ z. NodeAgrees (roll-Node z)) is (node_level _ (deeper _ _ (two_agree hs r)))
+node_case x (Node-F.Cons kept hs r) is = subst (λ z. NodeAgrees (roll-Node z)) is (node_level _ (deeper _ _ (two_agree hs r)))
+node_case x (Node-F.Chunk kept hs r) is = subst (λ z. NodeAgrees (roll-Node z)) is (node_level _ (deeper _ _ (two_agree hs r)))
 node_case x (Node-F.Range from at end) is = subst (λ z. NodeAgrees (roll-Node z)) is (node_level _ refl)
-node_case x (Node-F.VecSeq hs at) is = subst (λ z. NodeAgrees (roll-Node z)) is (node_level _ (deeper _ _ (all_agree hs)))
+node_case x (Node-F.VecSeq kept hs at) is = subst (λ z. NodeAgrees (roll-Node z)) is (node_level _ (deeper _ _ (all_agree hs)))
 
 value_case : (x : Value-F Node Value FnValue) (y : Value-F NodeIn ValueIn FunctionIn) → map-Value NodeIn ValueIn FunctionIn Node Value FnValue (λ e. e.0) (λ e. e.0) (λ e. e.0) y ≡ x → Agrees (roll-Value x)
-value_case x (Value-F.Vector hs) is = subst (λ z. Agrees (roll-Value z)) is (value_level _ (deeper _ _ (all_agree hs)))
+value_case x (Value-F.Vector kept hs) is = subst (λ z. Agrees (roll-Value z)) is (value_level _ (deeper _ _ (all_agree hs)))
 value_case x (Value-F.Function f) is = subst (λ z. Agrees (roll-Value z)) is (value_level _ f.1)
 value_case x (Value-F.Node n) is = subst (λ z. Agrees (roll-Value z)) is (value_level _ n.1)
-value_case x (Value-F.Reduced v) is = subst (λ z. Agrees (roll-Value z)) is (value_level _ (deeper _ _ v.1))
+value_case x (Value-F.Reduced kept v) is = subst (λ z. Agrees (roll-Value z)) is (value_level _ (deeper _ _ v.1))
 value_case x y is = subst (λ z. Agrees (roll-Value z)) is (value_level _ refl)
 
 function_case : (x : FnValue-F Node Value FnValue) (y : FnValue-F NodeIn ValueIn FunctionIn) → map-FnValue NodeIn ValueIn FunctionIn Node Value FnValue (λ e. e.0) (λ e. e.0) (λ e. e.0) y ≡ x → FunctionAgrees (roll-FnValue x)

@@ -97,10 +97,10 @@ vec_seq_stands hs at e =
 
 node_case : (x : Node-F Node Value FnValue) (y : Node-F NodeIn ValueIn FunctionIn) → map-Node NodeIn ValueIn FunctionIn Node Value FnValue (λ e. e.0) (λ e. e.0) (λ e. e.0) y ≡ x → NodeStands (roll-Node x)
 node_case x Node-F.Empty is = subst (λ z. NodeStands (roll-Node z)) is (node_level _ (λ e. sound_empty, refl, refl))
-node_case x (Node-F.Cons hs r) is = subst (λ z. NodeStands (roll-Node z)) is (node_level _ (cons_stands hs r, refl, refl))
-node_case x (Node-F.Chunk hs r) is = subst (λ z. NodeStands (roll-Node z)) is (node_level _ (chunk_stands hs r, refl, refl))
+node_case x (Node-F.Cons kept hs r) is = subst (λ z. NodeStands (roll-Node z)) is (node_level _ (cons_stands hs r, refl, refl))
+node_case x (Node-F.Chunk kept hs r) is = subst (λ z. NodeStands (roll-Node z)) is (node_level _ (chunk_stands hs r, refl, refl))
 node_case x (Node-F.Range from at end) is = subst (λ z. NodeStands (roll-Node z)) is (node_level _ (λ e. sound_range e, refl, refl))
-node_case x (Node-F.VecSeq hs at) is = subst (λ z. NodeStands (roll-Node z)) is (node_level _ (vec_seq_stands hs at, refl, refl))
+node_case x (Node-F.VecSeq kept hs at) is = subst (λ z. NodeStands (roll-Node z)) is (node_level _ (vec_seq_stands hs at, refl, refl))
 
 value_case : (x : Value-F Node Value FnValue) (y : Value-F NodeIn ValueIn FunctionIn) → map-Value NodeIn ValueIn FunctionIn Node Value FnValue (λ e. e.0) (λ e. e.0) (λ e. e.0) y ≡ x → ValueStands (roll-Value x)
 value_case x Value-F.Nil is = subst (λ z. ValueStands (roll-Value z)) is (value_level _ (λ e. sound_nil, refl, refl))
@@ -108,10 +108,10 @@ value_case x (Value-F.Bool b) is = subst (λ z. ValueStands (roll-Value z)) is (
 value_case x (Value-F.Int n) is = subst (λ z. ValueStands (roll-Value z)) is (value_level _ (λ e. sound_int, refl, refl))
 value_case x (Value-F.Keyword n) is = subst (λ z. ValueStands (roll-Value z)) is (value_level _ (λ e. sound_keyword, refl, refl))
 value_case x (Value-F.Text n) is = subst (λ z. ValueStands (roll-Value z)) is (value_level _ (λ e. sound_text, refl, refl))
-value_case x (Value-F.Vector hs) is = subst (λ z. ValueStands (roll-Value z)) is (value_level _ (λ e. sound_vector (all_sound hs e), refl, refl))
+value_case x (Value-F.Vector kept hs) is = subst (λ z. ValueStands (roll-Value z)) is (value_level _ (λ e. sound_vector (all_sound hs e), refl, refl))
 value_case x (Value-F.Function f) is = subst (λ z. ValueStands (roll-Value z)) is (value_level _ f.1)
 value_case x (Value-F.Node n) is = subst (λ z. ValueStands (roll-Value z)) is (value_level _ n.1)
-value_case x (Value-F.Reduced v) is = subst (λ z. ValueStands (roll-Value z)) is (value_level _ (λ e. sound_reduced (v.1.0 e), refl, refl))
+value_case x (Value-F.Reduced kept v) is = subst (λ z. ValueStands (roll-Value z)) is (value_level _ (λ e. sound_reduced (v.1.0 e), refl, refl))
 value_case x (Value-F.Cell c) is = subst (λ z. ValueStands (roll-Value z)) is (value_level _ (λ e. sound_cell, refl, refl))
 
 function_case : (x : FnValue-F Node Value FnValue) (y : FnValue-F NodeIn ValueIn FunctionIn) → map-FnValue NodeIn ValueIn FunctionIn Node Value FnValue (λ e. e.0) (λ e. e.0) (λ e. e.0) y ≡ x → FunctionStands (roll-FnValue x)

@@ -7,7 +7,7 @@ use Rattle.seq_values.specs.declared.words.XfKind.TheVariants as X
 use Rattle.seq_values.specs.declared.words.FolderKind.TheVariants as F
 use Rattle.seq_values.specs.Model.{Value, bool, int, vector, function, no_values, ◌&◌, list, values}
 use Rattle.seq_plan.specs.Plan.{Plan, seq, call, throw, then}
-use Rattle.seq_plan.specs.Nodes.{holds, is_nil, if_nil, if_true, with_value, depth, deepest, longest}
+use Rattle.seq_plan.specs.Nodes.{is_truthy, is_nil, if_nil, if_true, with_value, depth, deepest, longest}
 use Rattle.seq_plan.specs.Stages.{Effect, passes, passes_last, passes_each, passes_nothing, is_done, Sink, reduces, gathers, Onward, take_one, group_one, on_input, stage_on, output, entered, each_from, enter_each, with_state, with_last, by_effect, enter, complete}
 
 module _ {C : Type 0} (h : Value C → Plan C) where
@@ -26,7 +26,7 @@ module _ {C : Type 0} (h : Value C → Plan C) where
   then_take_one left x k = then_cond (int_le left (pos 0)) (k (int left) (passes_last x)) (k (int left) (passes x))
 
   then_if_true : (v : Value C) (p q : Plan C) → then (if_true v p q) h ≡ if_true v (then p h) (then q h)
-  then_if_true v p q = then_cond (holds v) p q
+  then_if_true v p q = then_cond (is_truthy v) p q
 
   then_if_nil : (v : Value C) (p q : Plan C) → then (if_nil v p q) h ≡ if_nil v (then p h) (then q h)
   then_if_nil v p q = then_cond (is_nil v) p q

@@ -1,10 +1,10 @@
 -- What is taken of well-formed nodes is well formed, and so is what the small plans do with it.
-use Rattle.std.proofs.Common.{◌≡◌, ℕ, zero, suc, ◌-◌, max, nat_le, nat_lt, ℤ, pos, ◌+ℤ◌, ◌-ℤ◌, int_lt, int_le, unsigned_abs, Bool, true, false, cond, List, ◌++◌, length, take, drop, Option, Some, None, refl, ap, subst}
+use Rattle.std.proofs.Common.{◌≡◌, ℕ, zero, suc, ◌-◌, max, nat_le, nat_lt, ℤ, pos, ◌+ℤ◌, int_lt, int_le, Bool, true, false, cond, List, ◌++◌, length, take, drop, Option, Some, None, refl, ap, subst}
 use Rattle.seq_values.specs.Model.{Value, nil, cell, empty, cons, chunk, range, vec_seq, Values, no_values, ◌&◌, list, values}
 use Rattle.seq_values.specs.WellFormedTerms.{is_seq, is_sequence}
 use Rattle.seq_plan.specs.Plan.{Plan, Round}
 use Rattle.seq_plan.specs.Sound.{are_some, ends_cons, ends_chunk}
-use Rattle.seq_plan.specs.Nodes.{deepest, longest, range_stop, vector_stop, ints_from, depth, depths, last_or, all_but_last, value_at, or_empty, first_of, with_heads, range_at, vector_at, rest_of, chunk_of, is_nil, holds, if_true, if_nil, round_at, with_value, give_value, with_members, call_each, ask_each, Found, now, asks_for, no_seq, found}
+use Rattle.seq_plan.specs.Nodes.{deepest, longest, range_stop, range_count, vector_stop, ints_from, depth, depths, last_or, all_but_last, value_at, or_empty, first_of, with_heads, range_at, vector_at, rest_of, chunk_of, is_nil, is_truthy, if_true, if_nil, round_at, with_value, give_value, with_members, call_each, ask_each, Found, now, asks_for, no_seq, found}
 use Rattle.seq_plan.specs.WellFormed.{sight, Shallow, Well, well_nil, well_bool, well_int, well_keyword, well_text, well_cell, well_empty, well_vector, well_function, well_reduced, well_cons, well_chunk, well_range, well_vec_seq, WellAll, well_none, well_more, WellList, well_end, well_item}
 use Rattle.seq_plan.specs.Keeping.{Keeps, keeps_ask, keeps_call, keeps_give, keeps_throw, KeepsRound}
 use Rattle.seq_plan.proofs.FitLemmas.{fit_at_start, both, first_of_both, second_of_both, le_next, le_stop}
@@ -168,7 +168,7 @@ module _ {C : Type 0} where
   well-chunk_of size (well_chunk {xs = xs} {r = s} n d h k) = well_chunked (well-list h) k (chunk_ends s (second_of_both (are_some xs) _ n))
   well-chunk_of size (well_range {from = from} {at = at} {end = end} n) =
       let stop = range_stop size from at end in
-      well_chunked (well-ints_from at (unsigned_abs (stop -ℤ at))) (well-range_at from stop end (le_stop size from at end (first_of_both _ _ n) (second_of_both (int_le from at) _ n))) (range_ends C (int_lt stop end) from stop end)
+      well_chunked (well-ints_from at (range_count size from at end)) (well-range_at from stop end (le_stop size from at end (first_of_both _ _ n) (second_of_both (int_le from at) _ n))) (range_ends C (int_lt stop end) from stop end)
   well-chunk_of size (well_vec_seq {xs = xs} {at = at} n d h) =
       let stop = vector_stop size at (length (list xs)) in
       well_chunked (well-take (stop - at) (well-drop at (well-list h))) (well-vector_at d h stop) (vector_ends (nat_lt stop (length (list xs))) xs stop)
@@ -216,7 +216,7 @@ module _ {C : Type 0} where
     keeps-if_nil v h k = keeps-either (is_nil v) h k
 
     pub keeps-if_true : (v : Value C) {p q : Plan C} → Keeps Asked p → Keeps Asked q → Keeps Asked (if_true v p q)
-    keeps-if_true v h k = keeps-either (holds v) h k
+    keeps-if_true v h k = keeps-either (is_truthy v) h k
 
     pub keeps-cond_round : (b : Bool) {p q : Round C} → KeepsRound Asked p → KeepsRound Asked q → KeepsRound Asked (cond b p q)
     keeps-cond_round true h k = h

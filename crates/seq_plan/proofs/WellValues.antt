@@ -1,9 +1,10 @@
--- A value of the code is well formed if and only if the value that it stands for is.
+-- A value of the code is well formed if and only if the numbers that it keeps are right and the value that it stands for is well formed.
 use Rattle.std.proofs.Common.{◌≡◌, ℕ, suc, nat_lt, nat_le, max, ℤ, int_lt, int_le, true, ◌&&◌, List, [], ◌∷◌, length, map, refl, ap, sym, ◌∙◌, subst, arith}
 use Rattle.std.proofs.lemmas.Bool.Decides.{nat_tests}
 use Rattle.seq_values.specs.Model as M
 use Rattle.seq_values.specs.Sight.{kept_by_function, a_function}
 use Rattle.seq_values.specs.Plain.{plain, plains, plain_term, node_step, value_step, function_step}
+use Rattle.seq_values.specs.Depth.{keeps_depth, keep_depth}
 use Rattle.seq_values.specs.WellFormed as W
 use Rattle.seq_values.specs.WellFormedTerms.{takes, is_well_formed_term}
 use Rattle.seq_values.specs.declared.words.Target.{Target}
@@ -178,10 +179,10 @@ vec_seq_stands hs at e d =
 
 node_case : (x : Node-F Node Value FnValue) (y : Node-F NodeIn ValueIn FunctionIn) → map-Node NodeIn ValueIn FunctionIn Node Value FnValue (λ e. e.0) (λ e. e.0) (λ e. e.0) y ≡ x → NodeStands (roll-Node x)
 node_case x Node-F.Empty is = subst (λ z. NodeStands (roll-Node z)) is (node_level _ (λ e d. well_empty, refl, λ w. refl))
-node_case x (Node-F.Cons hs r) is = subst (λ z. NodeStands (roll-Node z)) is (node_level _ (cons_stands hs r, refl, cons_back hs r))
-node_case x (Node-F.Chunk hs r) is = subst (λ z. NodeStands (roll-Node z)) is (node_level _ (chunk_stands hs r, refl, chunk_back hs r))
+node_case x (Node-F.Cons kept hs r) is = subst (λ z. NodeStands (roll-Node z)) is (node_level _ (cons_stands hs r, refl, cons_back hs r))
+node_case x (Node-F.Chunk kept hs r) is = subst (λ z. NodeStands (roll-Node z)) is (node_level _ (chunk_stands hs r, refl, chunk_back hs r))
 node_case x (Node-F.Range from at end) is = subst (λ z. NodeStands (roll-Node z)) is (node_level _ (λ e d. well_range e, refl, range_back from at end))
-node_case x (Node-F.VecSeq hs at) is = subst (λ z. NodeStands (roll-Node z)) is (node_level _ (vec_seq_stands hs at, refl, vec_seq_back hs at))
+node_case x (Node-F.VecSeq kept hs at) is = subst (λ z. NodeStands (roll-Node z)) is (node_level _ (vec_seq_stands hs at, refl, vec_seq_back hs at))
 
 value_case : (x : Value-F Node Value FnValue) (y : Value-F NodeIn ValueIn FunctionIn) → map-Value NodeIn ValueIn FunctionIn Node Value FnValue (λ e. e.0) (λ e. e.0) (λ e. e.0) y ≡ x → ValueStands (roll-Value x)
 value_case x Value-F.Nil is = subst (λ z. ValueStands (roll-Value z)) is (value_level _ (λ e d. well_nil, refl, λ w. refl))
@@ -189,10 +190,10 @@ value_case x (Value-F.Bool b) is = subst (λ z. ValueStands (roll-Value z)) is (
 value_case x (Value-F.Int n) is = subst (λ z. ValueStands (roll-Value z)) is (value_level _ (λ e d. well_int, refl, λ w. refl))
 value_case x (Value-F.Keyword n) is = subst (λ z. ValueStands (roll-Value z)) is (value_level _ (λ e d. well_keyword, refl, λ w. refl))
 value_case x (Value-F.Text n) is = subst (λ z. ValueStands (roll-Value z)) is (value_level _ (λ e d. well_text, refl, λ w. refl))
-value_case x (Value-F.Vector hs) is = subst (λ z. ValueStands (roll-Value z)) is (value_level _ (λ e d. well_vector d (all_well hs e (one_less _ deepest d)), rw (as_many hs), vector_back hs))
+value_case x (Value-F.Vector kept hs) is = subst (λ z. ValueStands (roll-Value z)) is (value_level _ (λ e d. well_vector d (all_well hs e (one_less _ deepest d)), rw (as_many hs), vector_back hs))
 value_case x (Value-F.Function f) is = subst (λ z. ValueStands (roll-Value z)) is (value_level _ f.1)
 value_case x (Value-F.Node n) is = subst (λ z. ValueStands (roll-Value z)) is (value_level _ n.1)
-value_case x (Value-F.Reduced v) is = subst (λ z. ValueStands (roll-Value z)) is (value_level _ (λ e d. well_reduced d (v.1.0 e (one_less _ deepest d)), refl, reduced_back v))
+value_case x (Value-F.Reduced kept v) is = subst (λ z. ValueStands (roll-Value z)) is (value_level _ (λ e d. well_reduced d (v.1.0 e (one_less _ deepest d)), refl, reduced_back v))
 value_case x (Value-F.Cell c) is = subst (λ z. ValueStands (roll-Value z)) is (value_level _ (λ e d. well_cell, refl, λ w. refl))
 
 function_case : (x : FnValue-F Node Value FnValue) (y : FnValue-F NodeIn ValueIn FunctionIn) → map-FnValue NodeIn ValueIn FunctionIn Node Value FnValue (λ e. e.0) (λ e. e.0) (λ e. e.0) y ≡ x → FunctionStands (roll-FnValue x)
@@ -202,10 +203,13 @@ all_stand : (v : Value) → ValueStands v
 all_stand = ind-Value NodeStands ValueStands FunctionStands (λ x y is. node_case x y is) (λ x y is. value_case x y is) (λ x y is. function_case x y is)
 
 pub well_formed : (v : Value) → W.is_well_formed v ≡ true → Well (plain v)
-well_formed v e = (all_stand v).0 (first_of_both _ _ e) (ap (λ n. nat_le n deepest) (depth_agrees v) ∙ second_of_both ((W.seen v).stands) _ e)
+well_formed v e = (all_stand v).0 (first_of_both _ _ e) (ap (λ n. nat_le n deepest) (depth_agrees v) ∙ second_of_both (keeps_depth v) _ (second_of_both ((W.seen v).stands) _ e))
 
-pub formed_well : (v : Value) → Well (plain v) → W.is_well_formed v ≡ true
-formed_well v w = both ((all_stand v).2 w) (sym (ap (λ n. nat_le n deepest) (depth_agrees v)) ∙ well-shallow w)
+pub formed_kept : (v : Value) → W.is_well_formed v ≡ true → keeps_depth v ≡ true
+formed_kept v e = first_of_both (keeps_depth v) _ (second_of_both ((W.seen v).stands) _ e)
+
+pub formed_well : (v : Value) → keeps_depth v ≡ true → Well (plain v) → W.is_well_formed v ≡ true
+formed_well v k w = both ((all_stand v).2 w) (both k (sym (ap (λ n. nat_le n deepest) (depth_agrees v)) ∙ well-shallow w))
 
 -- ## Terms
 
@@ -220,12 +224,19 @@ list_formed : (vs : List Value) → W.are_well_formed vs ≡ true → WellList (
 list_formed [] e = well_end
 list_formed (v ∷ vs) e = well_item (well_formed v (first_of_both _ _ e)) (list_formed vs (second_of_both (W.is_well_formed v) _ e))
 
-formed_list : (vs : List Value) → WellList (plains vs) → W.are_well_formed vs ≡ true
-formed_list [] w = refl
-formed_list (v ∷ vs) (well_item w ws) = both (formed_well v w) (formed_list vs ws)
+list_kept : (vs : List Value) → W.are_well_formed vs ≡ true → keep_depth vs ≡ true
+list_kept [] e = refl
+list_kept (v ∷ vs) e = both (formed_kept v (first_of_both _ _ e)) (list_kept vs (second_of_both (W.is_well_formed v) _ e))
+
+formed_list : (vs : List Value) → keep_depth vs ≡ true → WellList (plains vs) → W.are_well_formed vs ≡ true
+formed_list [] k w = refl
+formed_list (v ∷ vs) k (well_item w ws) = both (formed_well v (first_of_both (keeps_depth v) _ k) w) (formed_list vs (second_of_both (keeps_depth v) _ k) ws)
 
 pub term_formed : (t : Term) → is_well_formed_term t ≡ true → WellTerm (plain_term t)
 term_formed t e = well_term (list_formed t.args (first_of_both _ _ e)) (sym (ap (λ s. takes t.op s) (same_arguments t.args)) ∙ second_of_both (W.are_well_formed t.args) _ e)
 
-pub formed_term : (t : Term) → WellTerm (plain_term t) → is_well_formed_term t ≡ true
-formed_term t (well_term h e) = both (formed_list t.args h) (ap (λ s. takes t.op s) (same_arguments t.args) ∙ e)
+pub term_kept : (t : Term) → is_well_formed_term t ≡ true → keep_depth t.args ≡ true
+term_kept t e = list_kept t.args (first_of_both _ _ e)
+
+pub formed_term : (t : Term) → keep_depth t.args ≡ true → WellTerm (plain_term t) → is_well_formed_term t ≡ true
+formed_term t k (well_term h e) = both (formed_list t.args k h) (ap (λ s. takes t.op s) (same_arguments t.args) ∙ e)

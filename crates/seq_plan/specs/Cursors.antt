@@ -1,8 +1,9 @@
 -- What a cursor stands for: the node without the elements that are done.
-use Rattle.std.specs.Prelude.{◌≡◌, ℕ, ◌-◌, ℤ, int_lt, cond, List, length, take, drop}
+use Rattle.std.specs.Prelude.{◌≡◌, ℕ, ◌-◌, ℤ, int_lt, cond, List, length, take, drop, IsTrue}
 use Rattle.seq_values.specs.declared.value.Value.{Value}
 use Rattle.seq_values.specs.Model as M
 use Rattle.seq_values.specs.Plain.{plain, plains}
+use Rattle.seq_values.specs.WellFormed.{is_well_formed}
 use Rattle.seq_plan.specs.Nodes.{now, found}
 use Rattle.seq_plan.specs.declared.cursor.Cursor.{Cursor}
 use Rattle.seq_plan.specs.declared.cursor.Cursor.TheVariants as C
@@ -30,6 +31,11 @@ stands (C.Vector v) = vector_stand v.items v.at
 abbrev pub walked : Walked → M.Value ℕ
 walked (W.Within c) = stands c
 walked (W.Beyond v) = plain v
+
+-- what stands behind a node is well formed
+abbrev pub IsWalkedWell : Walked → Type 0
+IsWalkedWell (W.Within c) = Unit {0}
+IsWalkedWell (W.Beyond v) = IsTrue (is_well_formed v)
 
 -- how many elements a node has of its own, or 1 for a range that isn't empty
 abbrev pub own : M.Value ℕ → ℕ

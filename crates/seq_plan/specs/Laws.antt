@@ -1,7 +1,7 @@
 -- What holds of plans and of nodes, as statements. A renaming is given by a test that tells which cells are the same.
 use Rattle.std.specs.Prelude.{◌≡◌, ℕ, Bool, true, List, ◌∷◌, Some}
 use Rattle.seq_values.specs.Model.{Value, vector, values}
-use Rattle.seq_values.specs.Depth.{depth as depth_in_code}
+use Rattle.seq_values.specs.Depth.{depth as depth_in_code, keeps_depth, keep_depth}
 use Rattle.seq_values.specs.Plain.{plain, plain_term}
 use Rattle.seq_values.specs.WellFormed.{is_well_formed}
 use Rattle.seq_values.specs.WellFormedTerms.{is_well_formed_term}
@@ -50,12 +50,12 @@ DepthIsPlain = (v : Held) → depth (plain v) ≡ depth_in_code v
 abbrev pub WellFormedIsSound : Type 0
 WellFormedIsSound = (v : Held) → is_well_formed v ≡ true → Sound (plain v)
 
--- a value of the code is well formed if and only if the value that it stands for is, and so is a term
+-- a value of the code is well formed if and only if the depths that it keeps are right and the value that it stands for is well formed, and so is a term
 abbrev pub WellFormedIsWell : Type 0
-WellFormedIsWell = (v : Held) → (is_well_formed v ≡ true → Well (plain v)) × (Well (plain v) → is_well_formed v ≡ true)
+WellFormedIsWell = (v : Held) → (is_well_formed v ≡ true → (keeps_depth v ≡ true) × Well (plain v)) × (keeps_depth v ≡ true → Well (plain v) → is_well_formed v ≡ true)
 
 abbrev pub TermsAreWell : Type 0
-TermsAreWell = (t : HeldTerm) → (is_well_formed_term t ≡ true → WellTerm (plain_term t)) × (WellTerm (plain_term t) → is_well_formed_term t ≡ true)
+TermsAreWell = (t : HeldTerm) → (is_well_formed_term t ≡ true → (keep_depth t.args ≡ true) × WellTerm (plain_term t)) × (keep_depth t.args ≡ true → WellTerm (plain_term t) → is_well_formed_term t ≡ true)
 
 -- a well-formed value is sound
 abbrev pub WellIsSound : Type 0

@@ -20,6 +20,10 @@ range_stop size from at end =
     let next = from +ℤ (pos size *ℤ (int_div (at -ℤ from) (pos size) +ℤ pos 1)) in
     cond (int_lt next end) next end
 
+-- How many integers the chunk of a range has that begins at `at`: none, where that is the range's end.
+abbrev pub range_count : ℕ → ℤ → ℤ → ℤ → ℕ
+range_count size from at end = cond (int_lt at end) (unsigned_abs (range_stop size from at end -ℤ at)) 0
+
 -- Where the chunk of a vector's seq ends that begins at the place `at`: at the next multiple of the size above it, or at the vector's end.
 abbrev pub vector_stop : ℕ → ℕ → ℕ → ℕ
 vector_stop size at end = min (size * ((at / size) + 1)) end
@@ -110,19 +114,17 @@ module _ {C : Type 0} where
   -- `chunk-first s` and `chunk-rest s` of a chunked node, by the chunk size
   abbrev pub chunk_of : ℕ → Value C → Option (List (Value C) × Value C)
   chunk_of size (chunk xs r) = Some (list xs, r)
-  chunk_of size (range from at end) =
-      let stop = range_stop size from at end in
-      Some (ints_from at (unsigned_abs (stop -ℤ at)), range_at from stop end)
+  chunk_of size (range from at end) = Some (ints_from at (range_count size from at end), range_at from (range_stop size from at end) end)
   chunk_of size (vec_seq xs at) =
       let stop = vector_stop size at (length (list xs)) in
       Some (take (stop - at) (drop at (list xs)), vector_at xs stop)
   chunk_of size _ = None
 
   -- nil and false are false; all else is true
-  abbrev pub holds : Value C → Bool
-  holds nil = false
-  holds (bool b) = b
-  holds _ = true
+  abbrev pub is_truthy : Value C → Bool
+  is_truthy nil = false
+  is_truthy (bool b) = b
+  is_truthy _ = true
 
   abbrev pub is_nil : Value C → Bool
   is_nil nil = true
@@ -130,7 +132,7 @@ module _ {C : Type 0} where
 
   -- the first where the value is true
   abbrev pub if_true : Value C → Plan C → Plan C → Plan C
-  if_true v p q = cond (holds v) p q
+  if_true v p q = cond (is_truthy v) p q
 
   -- the first where the value is nil
   abbrev pub if_nil : Value C → Plan C → Plan C → Plan C

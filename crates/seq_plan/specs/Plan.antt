@@ -9,8 +9,8 @@ use Rattle.seq_values.specs.Model.{Value, Term}
 -- The loops of the rules. What its variables are is said where a loop's round stands.
 pub data Loop : Type 0 where
   nth_from last_from count_from gather_from doall_from every_from some_from : Loop
-  equal_from reduce_from transduce_from enter_from complete_from : Loop
-  drop_from drop_while_from parts_from pull_from ahead_from fold_from : Loop
+  equal_from reduce_from enter_from : Loop
+  drop_from drop_while_from parts_from pull_from ahead_from : Loop
   print_value print_rest : Loop
 
 pub data Plan (C : Type 0) : Type 0 where

@@ -8,7 +8,7 @@ use Rattle.seq_values.specs.declared.words.Target.{Target}
 use Rattle.seq_values.specs.declared.words.Target.TheVariants as T
 use Rattle.seq_values.specs.Model.{Value}
 use Rattle.seq_plan.specs.Plan.{Loop, nth_from, last_from, count_from, gather_from, doall_from, every_from, some_from, equal_from, reduce_from, enter_from, drop_from, drop_while_from, parts_from, pull_from, ahead_from, print_value, print_rest}
-use Rattle.seq_plan.specs.Alike.{Likeness, Like, like_function, like_none, like_more, LikeList, like_end, like_item, LikePlan, like_throw, LikeRound, like_fails, LikeRules}
+use Rattle.seq_plan.specs.Alike.{Likeness, Like, like_function, like_none, like_more, LikeList, like_end, like_item, LikePlan, like_throw, LikeRound, LikeRules}
 use Rattle.seq_plan.proofs.AlikeNodes.{like-cond}
 use Rattle.core_rows.proofs.AlikeCore.{like-core_call, like-core_function}
 use Rattle.lazy_rows.proofs.AlikeTable.{like-walk_call, like-lazy_term, like-walk_round}
@@ -186,7 +186,6 @@ module _ {C D : Type 0} {R : Likeness C D} where
   like-on_loop ahead_from h = like-ahead_round ahead_from h
   like-on_loop print_value h = like-value_round h
   like-on_loop print_rest h = like-rest_round h
-  like-on_loop _ h = like_fails
 
   pub like-rules_of : (processors size : ℕ) → LikeRules R (rules_of processors size) (rules_of processors size)
   like-rules_of processors size = record {

@@ -9,23 +9,23 @@ use Rattle.seq_plan.specs.Nodes.{first_of, rest_of, with_items, chunk_of, make_t
 use Rattle.seq_plan.specs.Lists.{lazily}
 use Rattle.seq_plan.specs.Sound.{Sound, SoundList, sound_item}
 use Rattle.lazy_rows.specs.Terms.{concat_on, concat_rule, mapcat_rule}
-use Rattle.seq_table.specs.World.{World, Seen, cut, done, ◌▸◌, SeqTo, Comes, comes_seq, comes_call, comes_make, CallTo, Begins, not_read}
+use Rattle.seq_table.specs.World.{World, Read, cut, done, ◌▸◌, SeqTo, Comes, comes_seq, comes_call, comes_make, CallTo, Begins, not_read}
 use Rattle.seq_table.specs.Lists.{◌▸▸◌, followed, ShowsSound, Joined, joined_cut, joined_done, joined_more, spread_done, spread_more, Meant, of_concat, of_mapcat, HasList, has_concat, has_mapcat, At, stops, shows, leads, joins, is_rest}
 use Rattle.seq_table.proofs.Seqs.{given, given_value, seq_sound, of_seq, front, SeqCases, at_none, at_some, seq_cases}
 use Rattle.seq_table.proofs.ListRows.{nothing}
 use Rattle.seq_table.proofs.ChunkedRows.{chunk_before, items_at}
 
 module _ {C : Type 0} where
-  followed_done : (l : Seen C) → followed l done ≡ l
+  followed_done : (l : Read C) → followed l done ≡ l
   followed_done cut = refl
   followed_done done = refl
   followed_done (x ▸ l) = ap (λ m. x ▸ m) (followed_done l)
 
-  followed_before : (xs : List (Value C)) (l m : Seen C) → followed (xs ▸▸ l) m ≡ xs ▸▸ followed l m
+  followed_before : (xs : List (Value C)) (l m : Read C) → followed (xs ▸▸ l) m ≡ xs ▸▸ followed l m
   followed_before [] l m = refl
   followed_before (x ∷ xs) l m = ap (λ n. x ▸ n) (followed_before xs l m)
 
-  both_before : (ys xs : List (Value C)) (l m : Seen C) → (ys ++ xs) ▸▸ followed l m ≡ ys ▸▸ followed (xs ▸▸ l) m
+  both_before : (ys xs : List (Value C)) (l m : Read C) → (ys ++ xs) ▸▸ followed l m ≡ ys ▸▸ followed (xs ▸▸ l) m
   both_before [] xs l m = sym (followed_before xs l m)
   both_before (y ∷ ys) xs l m = ap (λ n. y ▸ n) (both_before ys xs l m)
 
@@ -36,7 +36,7 @@ module _ {C : Type 0} (w : World C) where
   -- what a Concat of two or more gives at a seq: some elements, and the Concat of what is left
   data JoinStep (defs : List (Value C)) (c : Value C) (cs : List (Value C)) (v : Value C) : Type 0 where
     skips : Begins w c done → Comes w defs (concat_rule 32 cs) v → JoinStep defs c cs v
-    goes_on : (xs : List (Value C)) (r : Value C) (k : C) → ((es : List (Value C)) (t : Term C) (zs : List (Value C)) → At w es t (zs ++ xs) (cell k) → At w es t zs v) → ((l : Seen C) → Begins w r l → Begins w c (xs ▸▸ l)) → w.IsPart k Lazy defs (concat_of (r ∷ cs)) → JoinStep defs c cs v
+    goes_on : (xs : List (Value C)) (r : Value C) (k : C) → ((es : List (Value C)) (t : Term C) (zs : List (Value C)) → At w es t (zs ++ xs) (cell k) → At w es t zs v) → ((l : Read C) → Begins w r l → Begins w c (xs ▸▸ l)) → w.IsPart k Lazy defs (concat_of (r ∷ cs)) → JoinStep defs c cs v
 
   join_on : {defs : List (Value C)} {c v : Value C} (cs : List (Value C)) → ShowsSound w → Sound c → {s : Value C} → SeqTo w c s → ¬ (s ≡ nil) → (r : Option (List (Value C) × Value C)) → chunk_of 32 s ≡ r → Comes w defs (concat_on s cs r) v → JoinStep defs c cs v
   join_on cs shown sound {s = s} q n None e (comes_make {c = m} p d) =
@@ -52,7 +52,7 @@ module _ {C : Type 0} (w : World C) where
   join_step d cs shown sound (comes_seq {s = s} q k) = join_cases d cs shown sound (seq_cases w (concat_rule 32 (d ∷ cs)) (λ s. concat_on s (d ∷ cs) (chunk_of 32 s)) s q k)
 
   -- a Concat of d and of a part whose list is known
-  pub joined_at : {defs es fs ys : List (Value C)} {t u : Term C} {d v : Value C} {m : C} {kind : Kind} → ShowsSound w → Sound d → w.IsPart m kind fs u → HasList u → ((l l' : Seen C) → Begins w d l → Meant w fs u l' → Meant w defs t (ys ▸▸ followed l l')) → Comes w es (concat_rule 32 (d ∷ cell m ∷ [])) v → At w defs t ys v
+  pub joined_at : {defs es fs ys : List (Value C)} {t u : Term C} {d v : Value C} {m : C} {kind : Kind} → ShowsSound w → Sound d → w.IsPart m kind fs u → HasList u → ((l l' : Read C) → Begins w d l → Meant w fs u l' → Meant w defs t (ys ▸▸ followed l l')) → Comes w es (concat_rule 32 (d ∷ cell m ∷ [])) v → At w defs t ys v
   joined_at {defs = ds} {es = es} {fs = fs} {ys = ys} {t = t} {u = u} {d = d} {v = v} {m = m} shown sound p i f k = by (join_step (cell m) [] shown sound k)
     where
       by : JoinStep es d (cell m ∷ []) v → At w ds t ys v
@@ -61,7 +61,7 @@ module _ {C : Type 0} (w : World C) where
           lift ds t ys (joins refl part p i (λ l l' b h. subst (λ x. Meant w ds t x) (sym (both_before ys xs l l')) (f (xs ▸▸ l) l' (before l b) h)))
 
   -- what holds of one term's list holds of another's
-  at_map : {defs : List (Value C)} {t u : Term C} → ((l : Seen C) → Meant w defs u l → Meant w defs t l) → {ys : List (Value C)} {v : Value C} → At w defs u ys v → At w defs t ys v
+  at_map : {defs : List (Value C)} {t u : Term C} → ((l : Read C) → Meant w defs u l → Meant w defs t l) → {ys : List (Value C)} {v : Value C} → At w defs u ys v → At w defs t ys v
   at_map g (stops q m) = stops q (g _ m)
   at_map g (shows q n a) = shows q n (at_map g a)
   at_map g (leads q p i f) = leads q p i (λ l h. g _ (f l h))
@@ -73,10 +73,10 @@ module _ {C : Type 0} (w : World C) where
   concat_row shown (c ∷ []) sound ds {v = v} d = subst (λ x. At w ds (concat_of (c ∷ [])) [] x) (given w d) (is_rest (λ l b. of_concat (subst (λ m. Joined w (c ∷ []) m) (followed_done l) (joined_more b joined_done))))
   concat_row shown (c ∷ d ∷ cs) (sound_item safe sound) ds {v = v} k = by (join_step d cs shown safe k) (λ k. concat_row shown (d ∷ cs) sound ds k)
     where
-      skip : (l : Seen C) → Begins w c done → Meant w ds (concat_of (d ∷ cs)) l → Meant w ds (concat_of (c ∷ d ∷ cs)) l
+      skip : (l : Read C) → Begins w c done → Meant w ds (concat_of (d ∷ cs)) l → Meant w ds (concat_of (c ∷ d ∷ cs)) l
       skip l b (of_concat j) = of_concat (joined_more b j)
 
-      go : (xs : List (Value C)) (r : Value C) → ((l : Seen C) → Begins w r l → Begins w c (xs ▸▸ l)) → (l : Seen C) → Meant w ds (concat_of (r ∷ d ∷ cs)) l → Meant w ds (concat_of (c ∷ d ∷ cs)) (xs ▸▸ l)
+      go : (xs : List (Value C)) (r : Value C) → ((l : Read C) → Begins w r l → Begins w c (xs ▸▸ l)) → (l : Read C) → Meant w ds (concat_of (r ∷ d ∷ cs)) l → Meant w ds (concat_of (c ∷ d ∷ cs)) (xs ▸▸ l)
       go xs r before l (of_concat joined_cut) = of_concat (subst (λ m. Joined w (c ∷ d ∷ cs) m) (followed_before xs cut cut) (joined_more (before cut not_read) joined_cut))
       go xs r before l (of_concat (joined_more {l = l1} {m = l2} b j)) = of_concat (subst (λ m. Joined w (c ∷ d ∷ cs) m) (followed_before xs l1 l2) (joined_more (before l1 b) j))
 
@@ -95,7 +95,7 @@ module _ {C : Type 0} (w : World C) where
     mapcat_made {s = s} {y = y} q n a (comes_make {c = m} part (comes_make {c = k} part' e)) =
         subst (λ x. At w defs (mapcat_of f c) [] x) (given w e) (joins refl part' part has_mapcat on)
       where
-        on : (l l' : Seen C) → Begins w y l → Meant w defs (mapcat_of f (rest_of s)) l' → Meant w defs (mapcat_of f c) (followed l l')
+        on : (l l' : Read C) → Begins w y l → Meant w defs (mapcat_of f (rest_of s)) l' → Meant w defs (mapcat_of f c) (followed l l')
         on l l' b (of_mapcat t h) = of_mapcat (front w q n t) (spread_more a b h)
 
     mapcat_cases : {v : Value C} → SeqCases w defs c (give nil) next v → At w defs (mapcat_of f c) [] v

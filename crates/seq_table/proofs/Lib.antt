@@ -25,11 +25,14 @@ pub mod Sizes
 pub mod WrittenFirstOfMap
 pub mod WrittenNoneKept
 pub mod WrittenFailingChunk
+pub mod WrittenFailingDef
 pub mod GeneratedOne
 pub mod TrueWalk
-pub mod NotOver
+pub mod NextMake
 pub mod Replay
 pub mod OneRun
+pub mod RunParts
+pub mod OneAnswered
 pub mod FoldedTree
 pub mod WrittenMadeScript
 pub mod WorkedMadeScript

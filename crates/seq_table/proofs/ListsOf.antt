@@ -13,7 +13,7 @@ use Rattle.seq_plan.proofs.SoundByLikes.{sound_rules}
 use Rattle.seq_meaning.proofs.SoundRuns.{sound_given, sound_part, sound_work}
 use Rattle.seq_table.specs.Table.{chunk_size, language}
 use Rattle.seq_table.proofs.AlikeWhole.{like-rules_of}
-use Rattle.seq_table.specs.World.{script_in, Comes, World, names_world, Seen, cut, done, ◌▸◌, Begins, not_read, asked, at_end, element}
+use Rattle.seq_table.specs.World.{script_in, Comes, World, names_world, Read, cut, done, ◌▸◌, Begins, not_read, asked, at_end, element}
 use Rattle.seq_table.proofs.ChunkedRows.{map_row, filter_row}
 use Rattle.seq_table.proofs.JoinedRows.{joined_at, concat_row, mapcat_row}
 use Rattle.seq_table.proofs.MoreRows.{keep_row, near_row}
@@ -23,23 +23,23 @@ use Rattle.seq_table.proofs.DropRows.{drop_row, drop_while_row}
 use Rattle.seq_table.proofs.ListRows.{take_row, take_while_row, next_row, repeat_row, cycle_row}
 
 module _ {C : Type 0} where
-  before-append : (ys zs : List (Value C)) (l : Seen C) → (ys ++ zs) ▸▸ l ≡ ys ▸▸ (zs ▸▸ l)
+  before-append : (ys zs : List (Value C)) (l : Read C) → (ys ++ zs) ▸▸ l ≡ ys ▸▸ (zs ▸▸ l)
   before-append [] zs l = refl
   before-append (y ∷ ys) zs l = ap (λ m. y ▸ m) (before-append ys zs l)
 
-  cut_refl : (l : Seen C) → CutOf l l
+  cut_refl : (l : Read C) → CutOf l l
   cut_refl cut = cut_here
   cut_refl done = cut_done
   cut_refl (x ▸ l) = cut_later (cut_refl l)
 
-  cut_before : (ys : List (Value C)) {l l' : Seen C} → CutOf l l' → CutOf (ys ▸▸ l) (ys ▸▸ l')
+  cut_before : (ys : List (Value C)) {l l' : Read C} → CutOf l l' → CutOf (ys ▸▸ l) (ys ▸▸ l')
   cut_before [] h = h
   cut_before (y ∷ ys) h = cut_later (cut_before ys h)
 
-  cut_at : (ys : List (Value C)) (l : Seen C) → CutOf (ys ▸▸ cut) (ys ▸▸ l)
+  cut_at : (ys : List (Value C)) (l : Read C) → CutOf (ys ▸▸ cut) (ys ▸▸ l)
   cut_at ys l = cut_before ys cut_here
 
-  cut_trans : {a b c : Seen C} → CutOf a b → CutOf b c → CutOf a c
+  cut_trans : {a b c : Read C} → CutOf a b → CutOf b c → CutOf a c
   cut_trans cut_here k = cut_here
   cut_trans cut_done k = k
   cut_trans (cut_later h) (cut_later k) = cut_later (cut_trans h k)
@@ -61,7 +61,7 @@ module _ {C : Type 0} (w : World C) where
   begun has_repeat = of_repeat repeated_cut
   begun has_cycle = of_cycle not_read cycled_cut
 
-  less : {defs : List (Value C)} {t : Term C} {l l' : Seen C} → CutOf l l' → InList w defs t l' → InList w defs t l
+  less : {defs : List (Value C)} {t : Term C} {l l' : Read C} → CutOf l l' → InList w defs t l' → InList w defs t l
   less cut_here nothing_read = nothing_read
   less h (so_far m k) = so_far m (cut_trans h k)
 
@@ -73,7 +73,7 @@ module _ {C : Type 0} (w : World C) where
   cut_of {ys = ys} (is_rest f) = so_far (f cut not_read) (cut_at ys cut)
 
   -- the list of the next part is the rest of this one's
-  lead_on : {defs es : List (Value C)} {t u : Term C} (ys : List (Value C)) {l : Seen C} → HasList u → ((m : Seen C) → Meant w es u m → Meant w defs t (ys ▸▸ m)) → InList w es u l → InList w defs t (ys ▸▸ l)
+  lead_on : {defs es : List (Value C)} {t u : Term C} (ys : List (Value C)) {l : Read C} → HasList u → ((m : Read C) → Meant w es u m → Meant w defs t (ys ▸▸ m)) → InList w es u l → InList w defs t (ys ▸▸ l)
   lead_on ys i f nothing_read = so_far (f cut (begun i)) (cut_at ys cut)
   lead_on ys i f (so_far {l' = l'} k c) = so_far (f l' k) (cut_before ys c)
 
@@ -82,7 +82,7 @@ module _ {C : Type 0} (w : World C) where
 
   module _ (opens : Opens w) (sound : ShowsSound w) (parts : PartsSound w) (concats : (es cs : List (Value C)) (v : Value C) → Comes w es (term_plan (script_in w es) (record { op = O.Concat; args = cs })) v → Comes w es (concat_rule 32 cs) v) (rows : (t : Term C) → HasList t → RowOf w t) where
     -- By induction on what is read: the elements, and the asks between them.
-    pub listed : {v : Value C} {l : Seen C} → Begins w v l → {defs : List (Value C)} {t : Term C} {ys : List (Value C)} → At w defs t ys v → InList w defs t (ys ▸▸ l)
+    pub listed : {v : Value C} {l : Read C} → Begins w v l → {defs : List (Value C)} {t : Term C} {ys : List (Value C)} → At w defs t ys v → InList w defs t (ys ▸▸ l)
     listed not_read a = cut_of a
     listed (at_end q) {ys = ys} (stops q' m) = so_far m (cut_refl (ys ▸▸ done))
     listed (at_end q) {ys = ys} (shows q' n a) = absurd (n (cc))
@@ -141,5 +141,5 @@ module _ (processors : ℕ) (program : Program) (limit : ℕ) where
   row t (has_cycle {whole = whole} {c = c}) s defs v d = cycle_row here whole c defs d
 
   -- the elements of what an evaluation of a term gives are those of the term's list
-  pub lists : (e : Name) (defs : List (Value Name)) (t : Term Name) (v : Value Name) (l : Seen Name) → HasList t → Of (language processors) program limit e (work defs (of_term t)) → Gives (language processors) program limit e (gave v) → Begins here v l → InList here defs t l
+  pub lists : (e : Name) (defs : List (Value Name)) (t : Term Name) (v : Value Name) (l : Read Name) → HasList t → Of (language processors) program limit e (work defs (of_term t)) → Gives (language processors) program limit e (gave v) → Begins here v l → InList here defs t l
   lists e defs t v l i o g b = listed here opens given_sound parts_sound (λ es cs v d. d) row b {ys = []} (row t i (sound_work (language processors) program limit keeps o).1 defs v (comes_of (language processors) program limit e defs (of_term t) v g o))

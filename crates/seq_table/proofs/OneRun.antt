@@ -5,24 +5,24 @@ use Rattle.clj_script.specs.Trees.{Program}
 use Rattle.seq_plan.specs.Plan.{Rules}
 use Rattle.seq_meaning.specs.Names.{Name}
 use Rattle.seq_meaning.specs.Gives.{Gives}
-use Rattle.seq_meaning.specs.Counts.{MadeBy, HasOver, Fits}
+use Rattle.seq_meaning.specs.Counts.{FormsFit}
 use Rattle.seq_meaning.proofs.Once.{one_gives, one_before}
 use Rattle.seq_table.specs.Fronts.{Front, front_nil, front_empty, front_vector, front_range, front_vec_seq, front_cons, front_chunk, front_behind, front_unrealised, front_no_list}
 use Rattle.seq_table.specs.Outputs.{Ending, definitions, FrontLines, no_lines, line_of, no_line_of, Ledger, ledger_of, Line, line_of_def, line_of_defn, line_of_prn, line_of_failed_def, line_of_failed_prn, line_of_ledger, Output, no_output, one_more_line, DefThrows, def_throws, IsReached, Ran, ran_out, threw_at, ran_through}
 use Rattle.seq_table.proofs.Sizes.{one_size}
 
-data Order (a b : ℕ) : Type 0 where
+pub data Order (a b : ℕ) : Type 0 where
   below : a < b → Order a b
   level : a ≡ b → Order a b
   above : b < a → Order a b
 
-order : (a b : ℕ) → Order a b
+pub order : (a b : ℕ) → Order a b
 order zero zero = level refl
 order zero (suc b) = below (omega arith)
 order (suc a) zero = above (omega arith)
 order (suc a) (suc b) = elim (order a b) [ below h ↦ below (omega (arith, h)) | level h ↦ level (ap suc h) | above h ↦ above (omega (arith, h)) ]
 
-in_range : {A : Type 0} (l : List A) (i : ℕ) {x : A} → slice_get l i ≡ Some x → i < length l
+pub in_range : {A : Type 0} (l : List A) (i : ℕ) {x : A} → slice_get l i ≡ Some x → i < length l
 in_range [] i q = absurd cc
 in_range (y ∷ l) zero q = omega arith
 in_range (y ∷ l) (suc i) q = let h = in_range l i q in omega arith
@@ -121,23 +121,20 @@ module _ (rules : Rules Name) (program : Program) (limit : ℕ) where
   one_line (line_of_ledger p g) (line_of_failed_prn q h) = absurd cc
   one_line (line_of_ledger p g) (line_of_ledger q h) = one_ledger g h
 
-  one_output : {k : ℕ} {xs ys : List ℕ} → Output rules program limit k xs → Output rules program limit k ys → xs ≡ ys
+  pub one_output : {k : ℕ} {xs ys : List ℕ} → Output rules program limit k xs → Output rules program limit k ys → xs ≡ ys
   one_output no_output no_output = refl
   one_output (one_more_line o l) (one_more_line p m) = let a = one_output o p in let b = one_line l m in rw (a, b)
 
   -- the first form that ends the run decides
-  no_over : {cells k : ℕ} → Fits rules program limit cells k → ¬ (HasOver (MadeBy rules program limit k) cells)
-  no_over f (l, d, all, h) = let r = f l d all in absurd (omega arith)
-
-  throws_after : {k : ℕ} → DefThrows rules program limit k → (0 < k) × (k ≤ length program.tops)
+  pub throws_after : {k : ℕ} → DefThrows rules program limit k → (0 < k) × (k ≤ length program.tops)
   throws_after (def_throws {i = i} p q g) = let h = in_range program.tops i q in (omega arith, omega arith)
 
   module _ (cells : ℕ) where
     abbrev Over : ℕ → Type 0
-    Over k = HasOver (MadeBy rules program limit k) cells
+    Over k = ¬ (FormsFit rules program limit cells k)
 
     fits_before : {k i : ℕ} → IsReached rules program limit cells k → 0 < i → i < k → ¬ (Over i)
-    fits_before r h q o = no_over (r _ h q).0 o
+    fits_before r h q o = o (r _ h q).0
 
     one_place : {j k : ℕ} → IsReached rules program limit cells (suc j) → IsReached rules program limit cells (suc k) → Over (suc j) → Over (suc k) → j ≡ k
     one_place {j = j} {k = k} r s o p = elim (order j k) [
@@ -153,12 +150,12 @@ module _ (rules : Rules Name) (program : Program) (limit : ℕ) where
       | above h ↦ absurd ((r k (throws_after e).0 h).1 e)
     ]
 
-    out_or_throw : {j k : ℕ} → IsReached rules program limit cells (suc j) → Over (suc j) → IsReached rules program limit cells k → Fits rules program limit cells k → ¬ (DefThrows rules program limit k)
+    out_or_throw : {j k : ℕ} → IsReached rules program limit cells (suc j) → Over (suc j) → IsReached rules program limit cells k → FormsFit rules program limit cells k → ¬ (DefThrows rules program limit k)
     out_or_throw {j = j} {k = k} r o s f d = go (order (suc j) k)
       where
         go : Order (suc j) k → ⊥
         go (below h) = fits_before s (omega arith) h o
-        go (level h) = no_over f (subst (λ i. Over i) h o)
+        go (level h) = (subst (λ i. Over i) h o) f
         go (above h) = (r k (throws_after d).0 h).1 d
 
     pub one_run : {a b : Ending} {xs ys : List ℕ} → Ran rules program limit cells a xs → Ran rules program limit cells b ys → (a ≡ b) × (xs ≡ ys)

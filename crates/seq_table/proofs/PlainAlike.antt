@@ -6,16 +6,16 @@ use Rattle.seq_plan.specs.Plan.{Rules}
 use Rattle.seq_plan.specs.Alike.{Likeness, Like, like_nil, like_bool, like_int, like_keyword, like_text, like_reduced, like_function, like_cell, LikeAll, like_none, like_more, LikeRules}
 use Rattle.seq_plan.proofs.AlikeNodes.{like-first_of, like-rest_of, like-found}
 use Rattle.seq_meaning.specs.Names.{Name}
-use Rattle.seq_table.specs.World.{World, names_world, Seen, cut, done, ◌▸◌, IsWide, wide_cut, wide_done, wide_more, Begins, not_read, asked, at_end, element, elements}
+use Rattle.seq_table.specs.World.{World, names_world, Read, cut, done, ◌▸◌, IsWide, wide_cut, wide_done, wide_more, Begins, not_read, asked, at_end, element, elements}
 use Rattle.seq_table.specs.Same.{Same}
-use Rattle.seq_table.specs.Plains.{Plain, plain_function, plain_reduced, plain_list, Plains, ◌then◌, PlainOf, of_nil, of_bool, of_int, of_keyword, of_text, of_reduced, of_function, of_list, of_deep, of_cell, PlainAll, all_none, all_more, PlainSeen, seen_cut, seen_done, seen_more}
+use Rattle.seq_table.specs.Plains.{Plain, plain_function, plain_reduced, plain_list, Plains, ◌then◌, PlainOf, of_nil, of_bool, of_int, of_keyword, of_text, of_reduced, of_function, of_list, of_deep, of_cell, PlainAll, all_none, all_more, PlainRead, read_cut, read_done, read_more}
 use Rattle.seq_table.proofs.SameCells.{shows_alike}
 use Rattle.seq_table.proofs.OneCall.{both_now, both_ask, one_kind, other_kind}
 
-pub data LikeSeen (R : Likeness Name Name) : Seen Name → Seen Name → Type 0 where
-  like_cut : LikeSeen R cut cut
-  like_done : LikeSeen R done done
-  like_seen : {x y : Value Name} {l m : Seen Name} → Like R x y → LikeSeen R l m → LikeSeen R (x ▸ l) (y ▸ m)
+pub data LikeRead (R : Likeness Name Name) : Read Name → Read Name → Type 0 where
+  like_cut : LikeRead R cut cut
+  like_done : LikeRead R done done
+  like_read : {x y : Value Name} {l m : Read Name} → Like R x y → LikeRead R l m → LikeRead R (x ▸ l) (y ▸ m)
 
 module _ (rules : Rules Name) (program : Program) (limit : ℕ) (renames : (R : Likeness Name Name) → LikeRules R rules rules) where
   abbrev w : World Name
@@ -31,7 +31,7 @@ module _ (rules : Rules Name) (program : Program) (limit : ℕ) (renames : (R : 
   nil_left like_nil = refl
 
   -- like values show like elements
-  pub begins_alike : {v : Value Name} {l : Seen Name} → Begins w v l → {u : Value Name} {l' : Seen Name} {m : ℕ} → Begins w u l' → Like S v u → IsWide m l → IsWide m l' → LikeSeen S l l'
+  pub begins_alike : {v : Value Name} {l : Read Name} → Begins w v l → {u : Value Name} {l' : Read Name} {m : ℕ} → Begins w u l' → Like S v u → IsWide m l → IsWide m l' → LikeRead S l l'
   begins_alike (asked q g b) (asked q' g' b') h x x' = begins_alike b b' (shows_alike rules program limit renames (both_ask rules program limit renames (like-found h) q q') g g') x x'
   begins_alike (asked q g b) (at_end q') h x x' = absurd (other_kind rules program limit renames (like-found h) q q')
   begins_alike (asked q g b) (element q' n b') h x x' = absurd (other_kind rules program limit renames (like-found h) q q')
@@ -44,7 +44,7 @@ module _ (rules : Rules Name) (program : Program) (limit : ℕ) (renames : (R : 
   begins_alike (at_end q) (asked q' g b) h x x' = absurd (one_kind rules program limit renames (like-found h) q q')
   begins_alike (at_end q) not_read h wide_done x' = elim x' [ ]
   begins_alike (element q n b) (at_end q') h x x' = absurd (n (nil_left (both_now rules program limit renames (like-found h) q q')))
-  begins_alike (element q n b) (element q' n' b') h (wide_more x) (wide_more x') = let k = both_now rules program limit renames (like-found h) q q' in like_seen (like-first_of k) (begins_alike b b' (like-rest_of k) x x')
+  begins_alike (element q n b) (element q' n' b') h (wide_more x) (wide_more x') = let k = both_now rules program limit renames (like-found h) q q' in like_read (like-first_of k) (begins_alike b b' (like-rest_of k) x x')
   begins_alike (element q n b) (asked q' g b') h x x' = absurd (one_kind rules program limit renames (like-found h) q q')
   begins_alike (element q n b) not_read h (wide_more x) x' = elim x' [ ]
 
@@ -85,7 +85,7 @@ module _ (rules : Rules Name) (program : Program) (limit : ℕ) (renames : (R : 
     plain_alike (of_function a) (of_deep s) (like_function h) = elim s [ ]
     plain_alike (of_list s e k) (of_function b) (like_function h) = elim s [ ]
     plain_alike (of_deep s) (of_function b) (like_function h) = elim s [ ]
-    plain_alike (of_list s (elements b x) k) (of_list s' (elements b' x') k') h = ap plain_list (seen_alike k k' (begins_alike b b' h x x'))
+    plain_alike (of_list s (elements b x) k) (of_list s' (elements b' x') k') h = ap plain_list (read_alike k k' (begins_alike b b' h x x'))
     plain_alike (of_deep s) (of_deep s') h = refl
     plain_alike of_nil of_bool h = elim h [ ]
     plain_alike of_nil of_int h = elim h [ ]
@@ -155,16 +155,16 @@ module _ (rules : Rules Name) (program : Program) (limit : ℕ) (renames : (R : 
     all_alike all_none (all_more b bs) h = elim h [ ]
     all_alike (all_more a as') all_none h = elim h [ ]
 
-    seen_alike : {m d : ℕ} {l : Seen Name} {ps : Plains} → PlainSeen w m d l ps → {l' : Seen Name} {qs : Plains} → PlainSeen w m d l' qs → LikeSeen S l l' → ps ≡ qs
-    seen_alike seen_cut seen_cut like_cut = refl
-    seen_alike seen_done seen_done like_done = refl
-    seen_alike (seen_more {p = p} {ps = ps} a as') (seen_more {p = q} {ps = qs} b bs) (like_seen h k) = ap (λ r. r then ps) (plain_alike a b h) ∙ ap (λ r. q then r) (seen_alike as' bs k)
-    seen_alike seen_cut seen_done h = elim h [ ]
-    seen_alike seen_cut (seen_more b bs) h = elim h [ ]
-    seen_alike seen_done seen_cut h = elim h [ ]
-    seen_alike seen_done (seen_more b bs) h = elim h [ ]
-    seen_alike (seen_more a as') seen_cut h = elim h [ ]
-    seen_alike (seen_more a as') seen_done h = elim h [ ]
+    read_alike : {m d : ℕ} {l : Read Name} {ps : Plains} → PlainRead w m d l ps → {l' : Read Name} {qs : Plains} → PlainRead w m d l' qs → LikeRead S l l' → ps ≡ qs
+    read_alike read_cut read_cut like_cut = refl
+    read_alike read_done read_done like_done = refl
+    read_alike (read_more {p = p} {ps = ps} a as') (read_more {p = q} {ps = qs} b bs) (like_read h k) = ap (λ r. r then ps) (plain_alike a b h) ∙ ap (λ r. q then r) (read_alike as' bs k)
+    read_alike read_cut read_done h = elim h [ ]
+    read_alike read_cut (read_more b bs) h = elim h [ ]
+    read_alike read_done read_cut h = elim h [ ]
+    read_alike read_done (read_more b bs) h = elim h [ ]
+    read_alike (read_more a as') read_cut h = elim h [ ]
+    read_alike (read_more a as') read_done h = elim h [ ]
 
   pub like_is_alike : (y z : Value Name) → Like S y z → (m : ℕ) (p q : Plain) → PlainOf w m m y p → PlainOf w m m z q → p ≡ q
   like_is_alike y z h m p q a b = plain_alike a b h

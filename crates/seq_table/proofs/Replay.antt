@@ -15,7 +15,8 @@ use Rattle.seq_meaning.specs.Reached.{also_all, Reached}
 use Rattle.seq_table.specs.World.{World, names_world, seq_now, seq_asked, Comes, comes_visit, comes_ask, comes_seq, comes_call, comes_go, comes_make, comes_give}
 use Rattle.seq_meaning.proofs.Reaching.{begins, at_opened, after_visit, after_call, after_make, after_answer, at_give}
 use Rattle.seq_meaning.proofs.Once.{one_gives}
-use Rattle.seq_table.proofs.NotOver.{make_here, not-walk}
+use Rattle.seq_meaning.proofs.Makes.{not_over}
+use Rattle.seq_table.proofs.NextMake.{make_here}
 use Rattle.seq_table.proofs.TrueWalk.{TrueAt, run_at, run_next, no_throw, AnsweredBy, answered_by, answer_of, on-now, on-asks, on-told, on-thrown, on-spent, on-none, also_all-needs, also_all-ends}
 
 module _ {C : Type 0} (w : World C) where
@@ -70,7 +71,7 @@ module _ (rules : Rules Name) (program : Program) (limit : ℕ) (e : Name) (ds :
 
   makes : (n : ℕ) (kind : Kind) (u : Term Name) (k : Name → Plan Name) (j : ℕ) → (r : Run Name) × (on n (make kind u k) j [] ≡ also (made kind u) r) × (¬ (r ≡ over))
   unfolding walk
-  makes n kind u k j = (on n (k (part e j)) (suc j) [], by n, not-walk (script_of rules program limit ds) (λ j. part e j) n (k (part e j)) (suc j))
+  makes n kind u k j = (on n (k (part e j)) (suc j) [], by n, not_over (script_of rules program limit ds) (λ j. part e j) n (k (part e j)) (suc j))
     where
       by : (n : ℕ) → on n (make kind u k) j [] ≡ also (made kind u) (on n (k (part e j)) (suc j) [])
       by zero = refl

@@ -3,11 +3,11 @@ use Rattle.std.proofs.Common.{◌≡◌, refl, ap, subst, ◌∙◌, nat_le, Boo
 use Rattle.seq_values.specs.Model.{Value, nil, bool, int, keyword, text, vector, function, reduced, cell, empty, cons, chunk, range, vec_seq, no_values, ◌&◌}
 use Rattle.seq_plan.specs.Plan.{Plan, give, throw}
 use Rattle.seq_base.specs.declared.thrown.Thrown.TheVariants.{Depth}
-use Rattle.seq_plan.specs.Nodes.{first_of, rest_of, depth, deepest, is_nil, if_nil, give_value, Found, now, found}
+use Rattle.seq_plan.specs.Nodes.{first_of, rest_of, depth, deepest, is_nil, if_nil, give_value, now, found}
 use Rattle.seq_plan.specs.Sound.{Sound}
 use Rattle.seq_plan.proofs.SoundNodes.{found_sound}
 use Rattle.seq_table.specs.Lists.{ShowsSound}
-use Rattle.seq_table.specs.World.{World, Seen, done, ◌▸◌, SeqTo, seq_now, seq_asked, Comes, comes_give, Begins, not_read, asked, at_end, element}
+use Rattle.seq_table.specs.World.{World, Read, done, ◌▸◌, SeqTo, seq_now, seq_asked, Comes, comes_give, Begins, not_read, asked, at_end, element}
 
 module _ {C : Type 0} where
   -- what `seq` finds is its own seq
@@ -70,7 +70,7 @@ module _ {C : Type 0} (w : World C) where
   seq_sound shown (seq_asked q s r) h = seq_sound shown r (shown _ _ s)
 
   -- the elements of a seq are those of its collection
-  pub of_seq : {x s : Value C} {l : Seen C} → SeqTo w x s → Begins w s l → Begins w x l
+  pub of_seq : {x s : Value C} {l : Read C} → SeqTo w x s → Begins w s l → Begins w x l
   of_seq (seq_asked q sh r) b = asked q sh (of_seq r b)
   of_seq (seq_now q) not_read = not_read
   of_seq (seq_now {v = v} {s = s} q) (at_end q') =
@@ -86,7 +86,7 @@ module _ {C : Type 0} (w : World C) where
   pub done_of : {x s : Value C} → SeqTo w x s → s ≡ nil → Begins w x done
   done_of q e = of_seq q (at_end (seq_found q ∙ ap now e))
 
-  pub front : {x s : Value C} {l : Seen C} → SeqTo w x s → ¬ (s ≡ nil) → Begins w (rest_of s) l → Begins w x (first_of s ▸ l)
+  pub front : {x s : Value C} {l : Read C} → SeqTo w x s → ¬ (s ≡ nil) → Begins w (rest_of s) l → Begins w x (first_of s ▸ l)
   front q n b = of_seq q (element (seq_found q) n b)
 
   -- the two cases of a row that begins with a seq

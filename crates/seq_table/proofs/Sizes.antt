@@ -1,7 +1,7 @@
 -- What the size of a set says of lists without repeats.
 use Rattle.std.proofs.Common.{◌≡◌, ℕ, suc, ◌<◌, ◌≤◌, false, List, [], ◌∷◌, length, refl, ap, arith}
 use Rattle.seq_meaning.specs.Names.{Name}
-use Rattle.seq_meaning.specs.Counts.{IsIn, here, there, Distinct, once_more, HasSize, has_size, HasAtMost, HasOver}
+use Rattle.seq_meaning.specs.Counts.{IsIn, here, there, Distinct, once_more, HasSize, has_size, HasAtMost}
 use Rattle.seq_meaning.proofs.NameTests.{is_among, among_is}
 
 -- a name that isn't found is no member
@@ -43,8 +43,8 @@ module _ {A : Type 0} where
       let r = no_longer l m d (λ x i. only x (g x i)) in
       omega arith
 
-  pub over_of : {P : A → Type 0} {size : ℕ} → HasSize P size → (cells : ℕ) → cells < size → HasOver P cells
-  over_of (has_size m e all only len) cells h = (m, e, all, omega arith)
+  pub too_many : {P : A → Type 0} {size : ℕ} → HasSize P size → (cells : ℕ) → cells < size → ¬ (HasAtMost P cells)
+  too_many (has_size m e all only len) cells h most = let r = most m e all in absurd (omega arith)
 
   -- a set has one size
   pub one_size : {P : A → Type 0} {n m : ℕ} → HasSize P n → HasSize P m → n ≡ m

@@ -10,7 +10,7 @@ use Rattle.seq_values.specs.declared.words.Target.TheVariants as T
 use Rattle.seq_values.specs.Model.{Value, values}
 use Rattle.seq_plan.specs.Plan.{Loop, nth_from, last_from, count_from, gather_from, doall_from, every_from, some_from, equal_from, reduce_from, enter_from, drop_from, drop_while_from, parts_from, pull_from, ahead_from, print_value, print_rest}
 use Rattle.seq_plan.specs.WellFormed.{sights, Well, WellList, well_end, well_item}
-use Rattle.seq_plan.specs.Keeping.{Variables, Given, Keeps, keeps_throw, KeepsRound, keeps_fail, KeepsRules}
+use Rattle.seq_plan.specs.Keeping.{Variables, Given, Keeps, keeps_throw, KeepsRound, KeepsRules}
 use Rattle.seq_plan.proofs.WellNodes.{keeps-either}
 use Rattle.core_rows.proofs.WellCore.{keeps-core_call, keeps-core_function}
 use Rattle.lazy_rows.proofs.WellTable.{keeps-walk_call, keeps-lazy_term, keeps-walk_round}
@@ -179,7 +179,6 @@ module _ {C : Type 0} where
   keeps-on_loop ahead_from xs h = keeps-ahead_round ahead_from xs h
   keeps-on_loop print_value xs h = keeps-value_round h
   keeps-on_loop print_rest xs h = keeps-rest_round h
-  keeps-on_loop _ xs h = keeps_fail
 
   pub keeps-rules_of : (processors size : ℕ) → KeepsRules {C = C} (rules_of processors size)
   keeps-rules_of processors size = record {

@@ -21,7 +21,7 @@ use Rattle.seq_table.specs.Outputs.{no_lines, line_of, ledger_of, Line, line_of_
 use Rattle.seq_table.specs.Worked.{Totals, first_of_map_1, first_of_map_2, first_of_map_3, first_of_map}
 use Rattle.seq_table.specs.Written.{FirstOfMapWritten}
 use Rattle.seq_table.proofs.Rows.{Row, given_in, only_given, totals_of}
-use Rattle.seq_table.proofs.Sizes.{none_among, fits_of, over_of}
+use Rattle.seq_table.proofs.Sizes.{none_among, fits_of, too_many}
 
 abbrev part_1_1 : Name
 part_1_1 = part (form 1) 1
@@ -305,7 +305,7 @@ module _ (n : ℕ) where
   reached_below (suc (suc i)) p q = absurd (omega arith)
 
   ran_below : Ran (language 4) first_of_map limit 1 spent (codes "")
-  ran_below = ran_out {k = 1} (omega arith) reached_below (over_of totals_at_2.0 1 (omega arith)) output_1
+  ran_below = ran_out {k = 1} (omega arith) reached_below (too_many totals_at_2.0 1 (omega arith)) output_1
 
 pub first_of_map_is_written : FirstOfMapWritten
 first_of_map_is_written = (λ limit cells h c. from_past (λ limit. Ran (language 4) first_of_map limit cells done (codes "1\nxs 3\ncells 2 realised 1 failed 0\n")) 3 limit h (λ n. ran n cells c), λ limit h. from_past (λ limit. Ran (language 4) first_of_map limit 1 spent (codes "")) 3 limit h ran_below)

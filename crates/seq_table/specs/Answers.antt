@@ -66,3 +66,11 @@ module _ (Means : List ℕ → Program → Type 0) (Refuses : List ℕ → Refus
     refused_to_run : {options : Options} {r : Refusal} → options.request ≡ runs → Refuses script r → Answered script (Some options) script_refused (refusal_line r)
     looked_at : {options : Options} {program : Program} → options.request ≡ checks → Means script program → Answered script (Some options) (ended done) (forms_line (length program.tops))
     was_run : {options : Options} {program : Program} {ending : Ending} {bytes : List ℕ} → options.request ≡ runs → Means script program → RanBy options program ending bytes → Answered script (Some options) (ended ending) bytes
+
+-- A program that reads scripts so answers in one way: where each text means one program at most, is refused in one way at most, and never both.
+abbrev pub OneAnswered : (List ℕ → Program → Type 0) → (List ℕ → Refusal → Type 0) → Type 0
+OneAnswered Means Refuses =
+    ((bytes : List ℕ) (p q : Program) → Means bytes p → Means bytes q → p ≡ q)
+    → ((bytes : List ℕ) (r s : Refusal) → Refuses bytes r → Refuses bytes s → r ≡ s)
+    → ((bytes : List ℕ) (p : Program) (r : Refusal) → Means bytes p → ¬ (Refuses bytes r))
+    → (script : List ℕ) (options : Option Options) (status other : Status) (text another : List ℕ) → Answered Means Refuses script options status text → Answered Means Refuses script options other another → (status ≡ other) × (text ≡ another)

@@ -1,5 +1,5 @@
 -- Laws of the language: what evaluations give is what their plans come to, and a program has one output.
-use Rattle.std.specs.Prelude.{◌≡◌, ℕ, ◌≤◌, pos, List}
+use Rattle.std.specs.Prelude.{◌≡◌, ℕ, ◌≤◌, pos, List, ◌++◌}
 use Rattle.seq_values.specs.declared.words.Kind.{Kind}
 use Rattle.seq_values.specs.Model.{Value, Term, gave}
 use Rattle.clj_script.specs.Trees.{Program}
@@ -14,10 +14,10 @@ use Rattle.seq_table.specs.Plains.{AreAlike}
 use Rattle.seq_table.specs.Agree.{Agree}
 use Rattle.seq_table.specs.Same.{Same}
 use Rattle.seq_table.specs.Table.{language}
-use Rattle.seq_table.specs.World.{names_world, Seen, Begins, Comes, CallTo}
+use Rattle.seq_table.specs.World.{names_world, Read, Begins, Comes, CallTo}
 use Rattle.seq_table.specs.Lists.{HasList, InList}
 use Rattle.seq_table.specs.FoldTrees.{FoldTree}
-use Rattle.seq_table.specs.Outputs.{Ending, Ran}
+use Rattle.seq_table.specs.Outputs.{Ending, Ran, RanPart}
 
 -- An evaluation that gives a value gives what the plan of its work comes to.
 abbrev pub GivesWhatComes : Type 0
@@ -27,17 +27,17 @@ GivesWhatComes = (processors : ℕ) (program : Program) (limit : ℕ) (e : Name)
 abbrev pub OneRun : Type 0
 OneRun = (processors : ℕ) (program : Program) (limit cells : ℕ) (a b : Ending) (xs ys : List ℕ) → Ran (language processors) program limit cells a xs → Ran (language processors) program limit cells b ys → (a ≡ b) × (xs ≡ ys)
 
+-- What was written so far is a prefix of what any run writes, however it ends.
+abbrev pub PartOfRun : Type 0
+PartOfRun = (processors : ℕ) (program : Program) (limit cells : ℕ) (ending : Ending) (bytes text : List ℕ) → RanPart (language processors) program limit cells bytes → Ran (language processors) program limit cells ending text → (rest : List ℕ) × (text ≡ bytes ++ rest)
+
 -- What a fold comes to is the tree of its items: a future that folds the second half gives that half's tree.
 abbrev pub FoldIsTree : Type 0
 FoldIsTree = (processors : ℕ) (program : Program) (limit : ℕ) (defs : List (Value Name)) (size : ℕ) (combine f : Value Name) (stages items : List (Value Name)) (y : Value Name) → 1 ≤ size → Comes (names_world (language processors) program limit) defs (fold_items (pos size) combine f stages items give) y → FoldTree (names_world (language processors) program limit) defs size combine f stages items y
 
 -- What an evaluation of a term gives begins as the list that the term stands for, for the terms of `HasList`. Each part that is read on the way gives a value.
 abbrev pub ListsOfTerms : Type 0
-ListsOfTerms = (processors : ℕ) (program : Program) (limit : ℕ) (e : Name) (defs : List (Value Name)) (t : Term Name) (v : Value Name) (l : Seen Name) → HasList t → Of (language processors) program limit e (work defs (of_term t)) → Gives (language processors) program limit e (gave v) → Begins (names_world (language processors) program limit) v l → InList (names_world (language processors) program limit) defs t l
-
--- Every evaluation of a program that gives a value gives a sound one, and every part is of a term of sound values, with sound values of the forms before.
-abbrev pub RunsAreSound : Type 0
-RunsAreSound = (processors : ℕ) (program : Program) (limit : ℕ) → ((e : Name) (v : Value Name) → Gives (language processors) program limit e (gave v) → Sound v) × ((n : Name) (kind : Kind) (defs : List (Value Name)) (t : Term Name) → Part (language processors) program limit n kind (work defs (of_term t)) → SoundList defs × SoundList t.args)
+ListsOfTerms = (processors : ℕ) (program : Program) (limit : ℕ) (e : Name) (defs : List (Value Name)) (t : Term Name) (v : Value Name) (l : Read Name) → HasList t → Of (language processors) program limit e (work defs (of_term t)) → Gives (language processors) program limit e (gave v) → Begins (names_world (language processors) program limit) v l → InList (names_world (language processors) program limit) defs t l
 
 -- Every evaluation of a program that gives a value gives a well-formed one, and every part is of a well-formed term, with well-formed values of the forms before.
 abbrev pub RunsAreWell : Type 0
@@ -61,4 +61,4 @@ LikeIsAlike = (processors : ℕ) (program : Program) (limit : ℕ) (y z : Value 
 
 -- The list of such a term is determined, as far as it is read.
 abbrev pub OneList : Type 0
-OneList = (processors : ℕ) (program : Program) (limit : ℕ) (defs : List (Value Name)) (t : Term Name) (l m : Seen Name) → HasList t → InList (names_world (language processors) program limit) defs t l → InList (names_world (language processors) program limit) defs t m → Agree (Same (language processors) program limit) l m
+OneList = (processors : ℕ) (program : Program) (limit : ℕ) (defs : List (Value Name)) (t : Term Name) (l m : Read Name) → HasList t → InList (names_world (language processors) program limit) defs t l → InList (names_world (language processors) program limit) defs t m → Agree (Same (language processors) program limit) l m

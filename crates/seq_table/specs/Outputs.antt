@@ -8,7 +8,7 @@ use Rattle.clj_script.specs.Trees.{Expr, Top, def, defn, prn, ledger, Program}
 use Rattle.seq_plan.specs.Plan.{Rules}
 use Rattle.seq_meaning.specs.Names.{Name, form}
 use Rattle.seq_meaning.specs.Gives.{Gives, Before}
-use Rattle.seq_meaning.specs.Counts.{MadeBy, Realised, Failed, HasSize, HasOver, Fits}
+use Rattle.seq_meaning.specs.Counts.{MadeBy, Realised, Failed, HasSize, FormsFit}
 use Rattle.seq_table.specs.Fronts.{Front}
 
 -- how a run ends: every form was run, a `def` threw, or the parts passed the cell limit
@@ -97,13 +97,17 @@ module _ (rules : Rules Name) (program : Program) (limit : ℕ) where
 
   -- each form before form k fits, and none of them is a `def` that throws
   abbrev pub IsReached : ℕ → ℕ → Type 0
-  IsReached cells k = (i : ℕ) → 1 ≤ i → i < k → Fits rules program limit cells i × (¬ (DefThrows i))
+  IsReached cells k = (i : ℕ) → 1 ≤ i → i < k → FormsFit rules program limit cells i × (¬ (DefThrows i))
 
   -- how a run ends
   pub data Ran (cells : ℕ) : Ending → List ℕ → Type 0 where
     -- at form k the parts pass the cell limit: nothing is written for it
-    ran_out : {k : ℕ} {bytes : List ℕ} → k < length program.tops → IsReached cells (suc k) → HasOver (MadeBy rules program limit (suc k)) cells → Output k bytes → Ran cells spent bytes
+    ran_out : {k : ℕ} {bytes : List ℕ} → k < length program.tops → IsReached cells (suc k) → ¬ (FormsFit rules program limit cells (suc k)) → Output k bytes → Ran cells spent bytes
     -- form k is a `def` that throws, and fits: its line is the last one
-    threw_at : {k : ℕ} {bytes : List ℕ} → IsReached cells k → Fits rules program limit cells k → DefThrows k → Output k bytes → Ran cells def_threw bytes
+    threw_at : {k : ℕ} {bytes : List ℕ} → IsReached cells k → FormsFit rules program limit cells k → DefThrows k → Output k bytes → Ran cells def_threw bytes
     -- every form fits, and no `def` throws
     ran_through : {bytes : List ℕ} → IsReached cells (suc (length program.tops)) → Output (length program.tops) bytes → Ran cells done bytes
+
+  -- A prefix of what a run writes, as far as somebody has come: k forms were begun, each of them fits, none before the last is a `def` that throws, and the bytes begin their output.
+  pub data RanPart (cells : ℕ) (bytes : List ℕ) : Type 0 where
+    ran_part : {k : ℕ} {whole : List ℕ} (rest : List ℕ) → IsReached cells k → (0 < k → FormsFit rules program limit cells k) → Output k whole → whole ≡ bytes ++ rest → RanPart cells bytes

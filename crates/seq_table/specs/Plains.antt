@@ -2,7 +2,7 @@
 use Rattle.std.specs.Prelude.{◌≡◌, ℕ, zero, suc, ℤ, Bool, List}
 use Rattle.seq_values.specs.declared.words.Target.{Target}
 use Rattle.seq_values.specs.Model.{Value, nil, bool, int, keyword, text, vector, function, reduced, cell, empty, cons, chunk, range, vec_seq, Values, no_values, ◌&◌}
-use Rattle.seq_table.specs.World.{World, Seen, cut, done, ◌▸◌, Elements}
+use Rattle.seq_table.specs.World.{World, Read, cut, done, ◌▸◌, Elements}
 
 mutual
   pub data Plain : Type 0 where
@@ -43,7 +43,7 @@ module _ {C : Type 0} (w : World C) where
       of_text : {d : ℕ} {bytes : List ℕ} → PlainOf m d (text bytes) (plain_text bytes)
       of_reduced : {d : ℕ} {v : Value C} {p : Plain} → PlainOf m d v p → PlainOf m d (reduced v) (plain_reduced p)
       of_function : {d : ℕ} {t : Target} {xs : Values C} {ps : Plains} → PlainAll m d xs ps → PlainOf m d (function t xs) (plain_function t ps)
-      of_list : {d : ℕ} {v : Value C} {l : Seen C} {ps : Plains} → StandsForList v → Elements w v m l → PlainSeen m d l ps → PlainOf m (suc d) v (plain_list ps)
+      of_list : {d : ℕ} {v : Value C} {l : Read C} {ps : Plains} → StandsForList v → Elements w v m l → PlainRead m d l ps → PlainOf m (suc d) v (plain_list ps)
       of_deep : {v : Value C} → StandsForList v → PlainOf m zero v too_deep
       -- a cell is read as what it gives, and is no level of its own
       of_cell : {d : ℕ} {c : C} {v : Value C} {p : Plain} → w.Shows c v → PlainOf m d v p → PlainOf m d (cell c) p
@@ -52,11 +52,11 @@ module _ {C : Type 0} (w : World C) where
       all_none : {d : ℕ} → PlainAll m d no_values end_of_list
       all_more : {d : ℕ} {x : Value C} {xs : Values C} {p : Plain} {ps : Plains} → PlainOf m d x p → PlainAll m d xs ps → PlainAll m d (x & xs) (p then ps)
 
-    pub data PlainSeen (m : ℕ) : ℕ → Seen C → Plains → Type 0 where
-      seen_cut : {d : ℕ} → PlainSeen m d cut not_wider
-      seen_done : {d : ℕ} → PlainSeen m d done end_of_list
-      seen_more : {d : ℕ} {x : Value C} {l : Seen C} {p : Plain} {ps : Plains} → PlainOf m d x p → PlainSeen m d l ps → PlainSeen m d (x ▸ l) (p then ps)
+    pub data PlainRead (m : ℕ) : ℕ → Read C → Plains → Type 0 where
+      read_cut : {d : ℕ} → PlainRead m d cut not_wider
+      read_done : {d : ℕ} → PlainRead m d done end_of_list
+      read_more : {d : ℕ} {x : Value C} {l : Read C} {p : Plain} {ps : Plains} → PlainOf m d x p → PlainRead m d l ps → PlainRead m d (x ▸ l) (p then ps)
 
-  -- values that are the same wherever both can be read
+  -- Values that are the same wherever both can be read. A value that can't be read, as a cell that throws, is so to all values; so this is no equality, and two that are so to a third needn't be so to each other.
   abbrev pub AreAlike : Value C → Value C → Type 0
   AreAlike v u = (m : ℕ) (p q : Plain) → PlainOf m m v p → PlainOf m m u q → p ≡ q

@@ -8,7 +8,7 @@ use Rattle.seq_values.specs.declared.words.Op.TheVariants as O
 use Rattle.seq_values.specs.declared.words.Target.{Target}
 use Rattle.seq_values.specs.declared.words.Target.TheVariants as T
 use Rattle.seq_values.specs.Model.{Value}
-use Rattle.seq_plan.specs.Plan.{Plan, throw, Loop, nth_from, last_from, count_from, gather_from, doall_from, every_from, some_from, equal_from, reduce_from, enter_from, drop_from, drop_while_from, parts_from, pull_from, ahead_from, print_value, print_rest, Round, fails, Rules}
+use Rattle.seq_plan.specs.Plan.{Plan, throw, Loop, nth_from, last_from, count_from, gather_from, doall_from, every_from, some_from, equal_from, reduce_from, enter_from, drop_from, drop_while_from, parts_from, pull_from, ahead_from, print_value, print_rest, Round, Rules}
 use Rattle.core_rows.specs.Table.{core_call, core_function}
 use Rattle.lazy_rows.specs.Table.{walk_call, lazy_term, walk_round}
 use Rattle.stage_rows.specs.Table.{stage_call, pull_term, stage_round}
@@ -180,7 +180,6 @@ module _ {C : Type 0} where
   on_loop ahead_from xs = ahead_round ahead_from xs
   on_loop print_value xs = value_round xs
   on_loop print_rest xs = rest_round xs
-  on_loop _ xs = fails BadType
 
 -- the rules of the language, by the number of processors and the number of elements in a chunk
 abbrev pub rules_of : {C : Type 0} → ℕ → ℕ → Rules C

@@ -400,3 +400,13 @@ MadeScript =
     ((limit : ℕ) → 7 ≤ limit → Prints made_script limit 2 (codes "1")
     × Totals made_script limit 3 15 13 0)
     × Throws made_script 6 2 Steps
+
+abbrev pub failing_def_1 : Top
+failing_def_1 = def 0 (calls B.Inc (literal (keyword_literal (codes "a")) ∷ []))
+
+abbrev pub failing_def_2 : Top
+failing_def_2 = prn (defined 1)
+
+-- (def q (inc :a)) (prn q)
+abbrev pub failing_def : Program
+failing_def = record { functions = []; bodies = []; names = codes "q" ∷ []; tops = failing_def_1 ∷ failing_def_2 ∷ [] }

@@ -28,16 +28,16 @@ names_world rules program limit = record {
 }
 
 -- The elements from the left, as far as they are read: `cut` is where reading stopped, `done` is the end of the list.
-pub data Seen (C : Type 0) : Type 0 where
-  cut done : Seen C
-  ◌▸◌ : Value C → Seen C → Seen C
+pub data Read (C : Type 0) : Type 0 where
+  cut done : Read C
+  ◌▸◌ : Value C → Read C → Read C
 
 infixr 60 ◌▸◌
 -- m elements are read, or fewer where the end came before
-pub data IsWide {C : Type 0} : ℕ → Seen C → Type 0 where
+pub data IsWide {C : Type 0} : ℕ → Read C → Type 0 where
   wide_cut : IsWide zero cut
   wide_done : {m : ℕ} → IsWide (suc m) done
-  wide_more : {m : ℕ} {x : Value C} {l : Seen C} → IsWide m l → IsWide (suc m) (x ▸ l)
+  wide_more : {m : ℕ} {x : Value C} {l : Read C} → IsWide m l → IsWide (suc m) (x ▸ l)
 
 module _ {C : Type 0} (w : World C) where
   abbrev pub script_in : List (Value C) → Script C
@@ -63,12 +63,12 @@ module _ {C : Type 0} (w : World C) where
   CallTo defs f xs y = Comes defs (called (script_in defs) f xs) y
 
   -- the elements of a value begin with these
-  pub data Begins : Value C → Seen C → Type 0 where
+  pub data Begins : Value C → Read C → Type 0 where
     not_read : {v : Value C} → Begins v cut
-    asked : {v u : Value C} {c : C} {l : Seen C} → found v ≡ asks_for c → w.Shows c u → Begins u l → Begins v l
+    asked : {v u : Value C} {c : C} {l : Read C} → found v ≡ asks_for c → w.Shows c u → Begins u l → Begins v l
     at_end : {v : Value C} → found v ≡ now nil → Begins v done
-    element : {v s : Value C} {l : Seen C} → found v ≡ now s → ¬ (s ≡ nil) → Begins (rest_of s) l → Begins v (first_of s ▸ l)
+    element : {v s : Value C} {l : Read C} → found v ≡ now s → ¬ (s ≡ nil) → Begins (rest_of s) l → Begins v (first_of s ▸ l)
 
   -- the first m elements, with a mark where the end came before
-  pub data Elements (v : Value C) (m : ℕ) (l : Seen C) : Type 0 where
+  pub data Elements (v : Value C) (m : ℕ) (l : Read C) : Type 0 where
     elements : Begins v l → IsWide m l → Elements v m l

@@ -2,8 +2,8 @@
 use Rattle.std.specs.Prelude.{◌≡◌, ℕ, ◌≤◌, List, Option, Some, codes}
 use Rattle.clj_script.specs.Trees.{Program}
 use Rattle.seq_table.specs.Table.{language}
-use Rattle.seq_table.specs.Worked.{first_of_map, none_kept, failing_chunk, made_script}
-use Rattle.seq_table.specs.Outputs.{done, spent, Ran}
+use Rattle.seq_table.specs.Worked.{first_of_map, none_kept, failing_chunk, failing_def, made_script}
+use Rattle.seq_table.specs.Outputs.{done, def_threw, spent, Ran}
 use Rattle.seq_table.specs.Generated.{generated}
 use Rattle.seq_table.specs.Answers.{generates, ended, Refusal, Answered}
 
@@ -15,6 +15,10 @@ NoneKeptWritten = (limit cells : ℕ) → 32 ≤ limit → 3 ≤ cells → Ran (
 
 abbrev pub FailingChunkWritten : Type 0
 FailingChunkWritten = (limit cells : ℕ) → 18 ≤ limit → 1 ≤ cells → Ran (language 4) failing_chunk limit cells done (codes "threw divide\nthrew divide\nq 0\ncells 1 realised 0 failed 2\n")
+
+-- The second form isn't run.
+abbrev pub FailingDefWritten : Type 0
+FailingDefWritten = (limit cells : ℕ) → 1 ≤ limit → Ran (language 4) failing_def limit cells def_threw (codes "threw type\n")
 
 abbrev pub MadeScriptWritten : Type 0
 MadeScriptWritten = (limit cells : ℕ) → 7 ≤ limit → 15 ≤ cells → Ran (language 4) made_script limit cells done (codes "1\ns1 1\ncells 15 realised 13 failed 0\n")

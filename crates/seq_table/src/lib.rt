@@ -1,11 +1,14 @@
 //! The table of the language, and worked scripts over it. Each function states a law over the definitions.
 #![tactic(auto)]
 
+ghost use Rattle.std.specs.Prelude.{ℕ, List};
+ghost use Rattle.clj_script.specs.Trees.{Program};
+ghost use Rattle.seq_table.specs.Answers.{OneAnswered, Refusal};
 ghost use Rattle.seq_table.specs.Laws.{TableIsSound, TableKeeps, TableRenames};
-ghost use Rattle.seq_table.specs.Coming.{CallsAreSound, CallsAreWell, FoldIsTree, GivesWhatComes, LikeIsAlike, ListsOfTerms, OneCall, OneList, OneRun, RunsAreSound, RunsAreWell};
+ghost use Rattle.seq_table.specs.Coming.{CallsAreSound, CallsAreWell, FoldIsTree, GivesWhatComes, LikeIsAlike, ListsOfTerms, OneCall, OneList, OneRun, PartOfRun, RunsAreWell};
 ghost use Rattle.seq_table.specs.Worked.{FirstOfMap, FirstOfIterate, FailingChunk, NoneKept, SequeOfThree, FoldAsTree, CompletedGroups, TakeOfNone, PlainCall, RestAndNext, NeverAsked, NestedMapcat, GroupedSequence, LazyAndVector, NestedValue, PulledAhead, Dropped, JoinedOnce, InPlace, MadeScript};
 ghost use Rattle.seq_table.specs.Generated.{OneGenerated};
-ghost use Rattle.seq_table.specs.Written.{FirstOfMapWritten, NoneKeptWritten, FailingChunkWritten, MadeScriptWritten, MadeScriptAnswered};
+ghost use Rattle.seq_table.specs.Written.{FirstOfMapWritten, NoneKeptWritten, FailingChunkWritten, FailingDefWritten, MadeScriptWritten, MadeScriptAnswered};
 
 /// The rules look at cells only to ask them.
 pub fn law_table_renames()
@@ -30,11 +33,6 @@ pub fn law_runs_are_well()
 /// What a call of well-formed values comes to is well formed.
 pub fn law_calls_are_well()
     ensures { CallsAreWell }
-{}
-
-/// All that a run of a program gives and makes is sound.
-pub fn law_runs_are_sound()
-    ensures { RunsAreSound }
 {}
 
 /// What a call of sound values comes to is sound.
@@ -75,6 +73,23 @@ pub fn law_one_list()
 /// A run of a program ends in one way, with one text.
 pub fn law_one_run()
     ensures { OneRun }
+{}
+
+/// What was written so far is a prefix of what any run writes.
+pub fn law_part_of_run()
+    ensures { PartOfRun }
+{}
+
+/// Which program a text means, and how it is refused. A law that takes one holds of any that meets its premises.
+pub trait Reading {
+    ghost means: { List ℕ → Program → Type 0 };
+
+    ghost refuses: { List ℕ → Refusal → Type 0 };
+}
+
+/// Where a text means one program at most, is refused in one way at most, and never both, it is answered in one way.
+pub fn law_one_answered<R: Reading>()
+    ensures { OneAnswered R.means R.refuses }
 {}
 
 /// A chunk of three is mapped where its first element is asked.
@@ -190,6 +205,11 @@ pub fn written_none_kept()
 /// What a run of that script writes.
 pub fn written_failing_chunk()
     ensures { FailingChunkWritten }
+{}
+
+/// `(def q (inc :a))` throws: its line is the last one.
+pub fn written_failing_def()
+    ensures { FailingDefWritten }
 {}
 
 /// The script that is made from 1: ten calls run ahead, of which one is asked.

@@ -1,2 +1,5 @@
+pub mod Rolls
+pub mod DepthLemmas
+pub mod PartLemmas
 pub mod LineLemmas
 pub mod WellFormedLemmas

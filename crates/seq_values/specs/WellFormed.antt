@@ -1,6 +1,6 @@
 -- Which values are well formed, as tests that compute.
 use Rattle.std.specs.Prelude.{pos, Bool, true, false, ◌&&◌, nat_lt, nat_le, int_lt, int_le, length, List, [], ◌∷◌, map}
-use Rattle.seq_values.specs.Depth.{depth, depth_of_node, depth_of_function}
+use Rattle.seq_values.specs.Depth.{Grade, graded, graded_node, graded_function}
 use Rattle.seq_values.specs.Layers.{Value, Node, FnValue, ValueLayer, NodeLayer, FunctionLayer, Value-F, Node-F, fold_value, fold_node, fold_function}
 use Rattle.seq_values.specs.Sight.{Sight, a_nil, a_bool, an_int, a_vector, a_cell, an_empty, a_cons, a_chunked, a_function, another, kept_by_function}
 use Rattle.seq_values.specs.declared.words.Target.{Target}
@@ -99,10 +99,10 @@ not_empty seen = nat_lt 0 (length seen)
 
 abbrev pub node_seen : NodeLayer Seen → Seen
 node_seen Node-F.Empty = good an_empty
-node_seen (Node-F.Cons heads rest) = record { sight = a_cons; stands = not_empty heads && (all_stand heads && (rest.stands && ends_cons rest.sight)) }
-node_seen (Node-F.Chunk items rest) = record { sight = a_chunked; stands = not_empty items && (all_stand items && (rest.stands && ends_chunk rest.sight)) }
+node_seen (Node-F.Cons kept heads rest) = record { sight = a_cons; stands = not_empty heads && (all_stand heads && (rest.stands && ends_cons rest.sight)) }
+node_seen (Node-F.Chunk kept items rest) = record { sight = a_chunked; stands = not_empty items && (all_stand items && (rest.stands && ends_chunk rest.sight)) }
 node_seen (Node-F.Range from at end) = record { sight = a_chunked; stands = int_le from at && int_lt at end }
-node_seen (Node-F.VecSeq items at) = record { sight = a_chunked; stands = nat_lt at (length items) && all_stand items }
+node_seen (Node-F.VecSeq kept items at) = record { sight = a_chunked; stands = nat_lt at (length items) && all_stand items }
 
 abbrev pub value_seen : ValueLayer Seen → Seen
 value_seen Value-F.Nil = good a_nil
@@ -110,10 +110,10 @@ value_seen (Value-F.Bool truth) = good a_bool
 value_seen (Value-F.Int number) = good (an_int number)
 value_seen (Value-F.Keyword name) = good another
 value_seen (Value-F.Text bytes) = good another
-value_seen (Value-F.Vector items) = record { sight = a_vector (length items); stands = all_stand items }
+value_seen (Value-F.Vector kept items) = record { sight = a_vector (length items); stands = all_stand items }
 value_seen (Value-F.Function function) = function
 value_seen (Value-F.Node node) = node
-value_seen (Value-F.Reduced held) = record { sight = another; stands = held.stands }
+value_seen (Value-F.Reduced kept held) = record { sight = another; stands = held.stands }
 value_seen (Value-F.Cell id) = good a_cell
 
 abbrev pub function_seen : FunctionLayer Seen → Seen
@@ -131,15 +131,19 @@ seen_function = fold_function Seen node_seen value_seen function_seen
 abbrev pub sight_of : Value → Sight
 sight_of v = (seen v).sight
 
--- A value is well formed where it and all that it holds stand, and it is at most 256 deep. The number of a cell doesn't say which kind of part it is; the book of the parts does.
+-- right numbers, and at most 256 deep
+abbrev pub is_measured : Grade → Bool
+is_measured g = g.right && nat_le g.depth 256
+
+-- A value is well formed where it and all that it holds stand, each number that is kept in it is the depth of what keeps it, and it is at most 256 deep. The number of a cell doesn't say which kind of part it is; the book of the parts does.
 abbrev pub is_well_formed : Value → Bool
-is_well_formed v = (seen v).stands && nat_le (depth v) 256
+is_well_formed v = (seen v).stands && is_measured (graded v)
 
 abbrev pub is_well_formed_node : Node → Bool
-is_well_formed_node n = (seen_node n).stands && nat_le (depth_of_node n) 256
+is_well_formed_node n = (seen_node n).stands && is_measured (graded_node n)
 
 abbrev pub is_well_formed_function : FnValue → Bool
-is_well_formed_function f = (seen_function f).stands && nat_le (depth_of_function f) 256
+is_well_formed_function f = (seen_function f).stands && is_measured (graded_function f)
 
 abbrev pub are_well_formed : List Value → Bool
 are_well_formed [] = true

@@ -6,7 +6,7 @@ use seq_vector::{NoMemory, PVec, Share, Shared};
 /// One shared value.
 pub type Held = Shared<Value>;
 
-/// A value of a script.
+/// A value of a script. What holds values keeps beside them how deep it is itself.
 #[cycle(values)]
 #[derive(Drop)]
 pub enum Value {
@@ -16,29 +16,45 @@ pub enum Value {
     /// A keyword, by its name without the colon.
     Keyword(Text),
     Text(Text),
-    Vector(PVec<Value>),
+    Vector { depth: u32, items: PVec<Value> },
     Function(FnValue),
     Node(Node),
     /// A value that ends a reduction.
-    Reduced(Held),
+    Reduced { depth: u32, value: Held },
     /// A part, by its number: a lazy cell or a future.
     Cell(CellId),
 }
 
-/// A sequence whose first element is there.
+/// A sequence whose first element is there. What holds values keeps its own depth.
 #[cycle(values)]
 #[derive(Drop)]
 pub enum Node {
     /// The empty list `()`.
     Empty,
     /// Leading elements, the first element last, before a rest.
-    Cons { heads: PVec<Value>, rest: Held },
+    Cons {
+        depth: u32,
+        heads: PVec<Value>,
+        rest: Held,
+    },
     /// A chunk of elements, the first element first, before a rest.
-    Chunk { items: PVec<Value>, rest: Held },
+    Chunk {
+        depth: u32,
+        items: PVec<Value>,
+        rest: Held,
+    },
     /// The integers from `at` up to `end`, which it leaves out. The range began at `from`.
-    Range { from: i64, at: i64, end: i64 },
+    Range {
+        from: i64,
+        at: i64,
+        end: i64,
+    },
     /// The items of a vector from place `at` on.
-    VecSeq { items: PVec<Value>, at: u32 },
+    VecSeq {
+        depth: u32,
+        items: PVec<Value>,
+        at: u32,
+    },
 }
 
 /// A function with the arguments that are bound to it.
@@ -47,6 +63,8 @@ pub enum Node {
 pub struct FnValue {
     /// What is called.
     pub target: Target,
+    /// How deep the function is: one more than the deepest that is bound.
+    pub depth: u32,
     /// The bound arguments in order.
     pub bound: PVec<Value>,
 }
@@ -60,10 +78,16 @@ impl Share for Value {
             Value::Int(number) => Value::Int(*number),
             Value::Keyword(name) => Value::Keyword(name.share()?),
             Value::Text(text) => Value::Text(text.share()?),
-            Value::Vector(items) => Value::Vector(items.share()?),
+            Value::Vector { depth, items } => Value::Vector {
+                depth: *depth,
+                items: items.share()?,
+            },
             Value::Function(function) => Value::Function(function.share()?),
             Value::Node(node) => Value::Node(node.share()?),
-            Value::Reduced(held) => Value::Reduced(held.share()?),
+            Value::Reduced { depth, value } => Value::Reduced {
+                depth: *depth,
+                value: value.share()?,
+            },
             Value::Cell(id) => Value::Cell(*id),
         })
     }
@@ -74,11 +98,13 @@ impl Share for Node {
     fn share(&self) -> Result<Node, NoMemory> {
         Ok(match self {
             Node::Empty => Node::Empty,
-            Node::Cons { heads, rest } => Node::Cons {
+            Node::Cons { depth, heads, rest } => Node::Cons {
+                depth: *depth,
                 heads: heads.share()?,
                 rest: rest.share()?,
             },
-            Node::Chunk { items, rest } => Node::Chunk {
+            Node::Chunk { depth, items, rest } => Node::Chunk {
+                depth: *depth,
                 items: items.share()?,
                 rest: rest.share()?,
             },
@@ -87,7 +113,8 @@ impl Share for Node {
                 at: *at,
                 end: *end,
             },
-            Node::VecSeq { items, at } => Node::VecSeq {
+            Node::VecSeq { depth, items, at } => Node::VecSeq {
+                depth: *depth,
                 items: items.share()?,
                 at: *at,
             },
@@ -101,6 +128,7 @@ impl Share for FnValue {
         let bound = self.bound.share()?;
         Ok(FnValue {
             target: self.target,
+            depth: self.depth,
             bound,
         })
     }

@@ -1,7 +1,5 @@
-use Rattle.seq_plan.specs.Alike.{Tells}
-use Rattle.seq_meaning.specs.Gives.{Gives}
-use Rattle.seq_meaning.proofs.TrailsAlike.{follows}
+use Rattle.seq_meaning.proofs.NamedTrails.{in_names}
 use Rattle.seq_meaning.proofs.law_trail_in_names.Goals as goal
 
 pub returns : goal.returns
-returns c = λ rules program limit test s t whole other n p asked mades hs hw r h. follows (Tells test) (Gives rules program limit) hs limit hw r h
+returns g c = λ rules program limit named e defs task left plan asked mades h. in_names g.N.Naming.same rules program limit named e defs task h

@@ -1,5 +1,5 @@
-use Rattle.seq_meaning.proofs.TrailsTrue.{true_trail}
+use Rattle.seq_meaning.proofs.TrailsTrue.{true_so}
 use Rattle.seq_meaning.proofs.law_trail_is_true.Goals as goal
 
 pub returns : goal.returns
-returns c = λ rules program limit e defs task n p asked mades of t h g. true_trail rules program limit of t h g
+returns c = λ rules program limit e defs task n p asked mades of t h g. true_so rules program limit of t h g

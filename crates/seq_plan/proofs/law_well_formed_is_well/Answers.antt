@@ -1,5 +1,5 @@
-use Rattle.seq_plan.proofs.WellValues.{well_formed, formed_well}
+use Rattle.seq_plan.proofs.WellValues.{well_formed, formed_kept, formed_well}
 use Rattle.seq_plan.proofs.law_well_formed_is_well.Goals as goal
 
 pub returns : goal.returns
-returns c = λ v. (well_formed v, formed_well v)
+returns c = λ v. (λ e. (formed_kept v e, well_formed v e), formed_well v)

@@ -1,0 +1,4 @@
+pub mod Growing
+pub mod Stepping
+pub mod Turning
+pub mod Viewing

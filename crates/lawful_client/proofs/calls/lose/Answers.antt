@@ -1,0 +1,11 @@
+use Rattle.seq_lawful.specs.Lawful.{Lawful}
+use Rattle.seq_lawful.proofs.Keeps.{kept}
+use Rattle.seq_lawful.proofs.Discharge.{keeps_give_up}
+use Rattle.lawful_client.proofs.calls.lose.Goals as goal
+
+pub give_up-requires-clause-keeps : goal.give_up-requires-clause-keeps
+give_up-requires-clause-keeps g c =
+    let C = g.C.Cells in
+    let s = c.args.cells.now in
+    let u = c.requires.law in
+    keeps_give_up (C.law s) (C.noted s) (Lawful u.rules u.program u.limit) u.numeric u.program u.limit (kept u.numeric u.rules u.program u.limit u.alike) (C.alone s) (C.leads s) (C.seen s) (C.held s) u.is c.args.work c.requires.own.0 (λ b is. g.met.C.Cells.alone_free s is b) c.requires.own.1

@@ -1,0 +1,10 @@
+pub mod Refers
+pub mod Sites
+pub mod Lawful
+pub mod Renaming
+pub mod Runs
+pub mod KeepingLaws
+pub mod Rest
+pub mod RestLaws
+pub mod Grows
+pub mod Turned
