@@ -49,9 +49,9 @@ unfolding tree_over
 answered_empty {old = old} {new = new} g = answered_given (subst (λ (l : tree.Literal). HasGiven old new (tree.literal l)) empty_is.0 g)
 
 -- a literal was given
-pub answered_literal : {old new : Machine} {v : value.Value} {l : tree.Literal} → literal_of v ≡ l → HasGiven old new (tree_over (trees old) (node.Literal v)) → HasAnswered old new (gives (tree.literal l) [])
+pub answered_literal : {old new : Machine} (v : value.Value) {l : tree.Literal} → literal_of v ≡ l → HasGiven old new (tree_over (trees old) (node.Literal v)) → HasAnswered old new (gives (tree.literal l) [])
 unfolding tree_over
-answered_literal {old = old} {new = new} e g = answered_given (subst (λ (x : tree.Literal). HasGiven old new (tree.literal x)) e g)
+answered_literal {old = old} {new = new} v e g = answered_given (subst (λ (x : tree.Literal). HasGiven old new (tree.literal x)) e g)
 
 abbrev pub with_least : Least → Machine → Machine
 with_least least m = record { nodes = m.nodes; bodies = m.bodies; locals = m.locals; least = least; values = m.values; tasks = m.tasks }
