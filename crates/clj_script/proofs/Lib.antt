@@ -1,3 +1,4 @@
+pub mod LiteralLemmas
 pub mod UniqueLemmas
 pub mod LocalLemmas
 pub mod ArenaLemmas
@@ -24,3 +25,6 @@ pub mod TopFormLemmas
 pub mod MeaningLemmas
 pub mod EnoughLemmas
 pub mod ExpressionLemmas
+pub mod ClosedLemmas
+pub mod ClosedTopLemmas
+pub mod EveryLemmas
