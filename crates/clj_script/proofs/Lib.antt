@@ -1,4 +1,5 @@
 pub mod LiteralLemmas
+pub mod WrittenLemmas
 pub mod UniqueLemmas
 pub mod LocalLemmas
 pub mod ArenaLemmas
