@@ -90,32 +90,27 @@ none_asks a claims c fresh none x (e, s) = at s
     at (inr (zero, p, k, g, i)) = none-some p g
     at (inr (suc j, p, k, g, i)) = ((f.cells j p g).attempts k x i).0 e
 
-spotted : (a : Account) (claims : List Entry) (c : ℕ) (s : Spot) → IsRegistered a claims → option_map spot_of (slice_get claims c) ≡ Some s → WasOpened a c s
+pub spotted : (a : Account) (claims : List Entry) (c : ℕ) (s : Spot) → IsRegistered a claims → option_map spot_of (slice_get claims c) ≡ Some s → WasOpened a c s
 spotted a claims c s r e = at (slice_get claims c) refl e
   where
     at : (o : Option Entry) → slice_get claims c ≡ o → option_map spot_of o ≡ Some s → WasOpened a c s
     at None g h = absurd (none-some s h)
     at (Some x) g h = subst (WasOpened a c) (same_Some x.spot s h) (r.spots c x g)
 
-pub spotted_form : (a : Account) (claims : List Entry) (c k : ℕ) → IsRegistered a claims → option_map spot_of (slice_get claims c) ≡ Some (At.Form k) → k < length a.forms
-spotted_form a claims c k r e = let w = spotted a claims c (At.Form k) r e in slice_get_within a.forms k w.0 w.1
+pub form_is_there : (a : Account) (c k : ℕ) → WasOpened a c (At.Form k) → slice_get a.forms k ≡ None → ⊥
+form_is_there a c k w e = none-some w.0 (sym e ∙ w.1)
 
-pub form_asks : (a : Account) (claims : List Entry) (c k : ℕ) (f : Form) → IsRegistered a claims → option_map spot_of (slice_get claims c) ≡ Some (At.Form k) → f ≡ get_or a.forms k f → IsAskerOf a c (Some f.attempt.asker)
-form_asks a claims c k f r e g =
-    let w = spotted a claims c (At.Form k) r e in
-    let l = slice_get_within a.forms k w.0 w.1 in
-    let same : w.0 ≡ f = same_Some w.0 f (sym w.1 ∙ slice_get_read a.forms (length a.forms) k f refl l g) in
-    (f.attempt, (ap (λ (x : Form). x.attempt.claim) (sym same) ∙ w.2, inl (k, w.0, w.1, ap (λ (x : Form). x.attempt) same)), refl)
+pub form_asks : (a : Account) (c k : ℕ) (f : Form) → WasOpened a c (At.Form k) → slice_get a.forms k ≡ Some f → IsAskerOf a c (Some f.attempt.asker)
+form_asks a c k f w e = (f.attempt, (ap (λ (x : Form). x.attempt.claim) (same_Some f w.0 (sym e ∙ w.1)) ∙ w.2, inl (k, f, e, refl)), refl)
 
-pub spotted_part : (a : Account) (claims : List Entry) (c id i k : ℕ) → IsRegistered a claims → option_map spot_of (slice_get claims c) ≡ Some (At.Part id k) → i + 1 ≡ id → i < length a.cells
-spotted_part a claims c id i k r e s =
-    let w = spotted a claims c (At.Part id k) r e in
-    let n : id ≡ suc i = omega arith in slice_get_within a.cells i w.0 (subst (λ m. cell_at a m ≡ Some w.0) n w.2)
+pub part_is_there : (a : Account) (c id k : ℕ) → WasOpened a c (At.Part id k) → cell_at a id ≡ None → ⊥
+part_is_there a c id k w e = none-some w.0 (sym e ∙ w.2)
 
-pub part_tried : (a : Account) (claims : List Entry) (c id i k : ℕ) (p : Cell) → IsRegistered a claims → option_map spot_of (slice_get claims c) ≡ Some (At.Part id k) → i + 1 ≡ id → p ≡ get_or a.cells i p → (x : Attempt) × (slice_get p.attempts k ≡ Some x) × IsAskerOf a c (Some x.asker)
-part_tried a claims c id i k p r e s g =
-    let w = spotted a claims c (At.Part id k) r e in
-    let n : id ≡ suc i = omega arith in
-    let here : slice_get a.cells i ≡ Some w.0 = subst (λ m. cell_at a m ≡ Some w.0) n w.2 in
-    let same : w.0 ≡ p = same_Some w.0 p (sym here ∙ slice_get_read a.cells (length a.cells) i p refl (slice_get_within a.cells i w.0 here) g) in
-    (w.1, ap (λ (q : Cell). slice_get q.attempts k) (sym same) ∙ w.3, (w.1, (w.4, inr (id, w.0, k, w.2, w.3)), refl))
+pub attempt_is_there : (a : Account) (c id k : ℕ) (p : Cell) → WasOpened a c (At.Part id k) → cell_at a id ≡ Some p → slice_get p.attempts k ≡ None → ⊥
+attempt_is_there a c id k p w e g = none-some w.1 (sym g ∙ (ap (λ (q : Cell). slice_get q.attempts k) (same_Some p w.0 (sym e ∙ w.2)) ∙ w.3))
+
+pub part_asks : (a : Account) (c id k : ℕ) (p : Cell) (x : Attempt) → WasOpened a c (At.Part id k) → cell_at a id ≡ Some p → slice_get p.attempts k ≡ Some x → IsAskerOf a c (Some x.asker)
+part_asks a c id k p x w e g =
+    let same : p ≡ w.0 = same_Some p w.0 (sym e ∙ w.2) in
+    let here : x ≡ w.1 = same_Some x w.1 (sym g ∙ (ap (λ (q : Cell). slice_get q.attempts k) same ∙ w.3)) in
+    (x, (ap (λ (y : Attempt). y.claim) here ∙ w.4, inr (id, p, k, e, g)), refl)

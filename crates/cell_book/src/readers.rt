@@ -2,10 +2,13 @@
 ghost use Rattle.std.specs.Prelude.{◌≡◌, ◌≢◌, ◌<◌, ℕ, Some, slice_get, option_copied, option_map};
 ghost use Rattle.cell_book.specs.declared.cell.Form.{Form as Begun};
 ghost use Rattle.cell_book.specs.Account.{cell_at};
-ghost use Rattle.cell_book.specs.Readers.{maker_at, attempt_in, value_in, IsLowestOpen, FindsForm, IsFormClaim, form_value_in, IsFormValue};
+ghost use Rattle.cell_book.specs.Registers.{WasOpened};
+ghost use Rattle.cell_book.specs.declared.claims.Spot.TheVariants as Spots;
+ghost use Rattle.cell_book.specs.Readers.{maker_at, attempt_in, value_in, IsLowestOpen, IsAskerOf, FindsForm, IsFormClaim, form_value_in, IsFormValue};
 
 use crate::book::{Book, place_of};
 use crate::cell::{ClaimEnd, Form, State};
+use crate::claims::Spot;
 use seq_values::{CellId, Value};
 
 impl Book {
@@ -36,6 +39,55 @@ impl Book {
         ensures { IsLowestOpen self.now result }
     {
         self.claims.lowest()
+    }
+
+    /// The claim that asked for a claim, if another one did; `None` exactly for a number that is no claim.
+    #[tactic(auto, using(crate::proofs::Finding::none_asks, crate::proofs::Finding::spotted))]
+    pub fn asker(&self, claim: u128) -> Option<Option<u128>>
+        ensures { IsAskerOf self.now claim result }
+    {
+        match self.claims.spot(claim) {
+            None => None,
+            Some(spot) => self.asker_at(claim, &spot),
+        }
+    }
+
+    /// Who asked for the claim that was opened at a spot.
+    fn asker_at(&self, claim: u128, spot: &Spot) -> Option<Option<u128>>
+        requires { WasOpened self.now claim spot.now }
+        ensures { IsAskerOf self.now claim result }
+    {
+        match spot {
+            Spot::Form { at } => self.form_asker(claim, *at),
+            Spot::Part { cell, at } => self.part_asker(claim, *cell, *at),
+        }
+    }
+
+    /// Who asked for the claim on the form at a place.
+    #[tactic(auto, using(crate::proofs::Finding::form_is_there, crate::proofs::Finding::form_asks))]
+    fn form_asker(&self, claim: u128, at: usize) -> Option<Option<u128>>
+        requires { WasOpened self.now claim (Spots.Form at) }
+        ensures { IsAskerOf self.now claim result }
+    {
+        match self.forms.get(at) {
+            None => unreachable!(),
+            Some(form) => Some(form.attempt.asker),
+        }
+    }
+
+    /// Who asked for the claim that is the attempt at a place on a part.
+    #[tactic(auto, using(crate::proofs::Finding::part_is_there, crate::proofs::Finding::attempt_is_there, crate::proofs::Finding::part_asks))]
+    fn part_asker(&self, claim: u128, id: CellId, at: usize) -> Option<Option<u128>>
+        requires { WasOpened self.now claim (Spots.Part id at) }
+        ensures { IsAskerOf self.now claim result }
+    {
+        let Some(part) = self.cells.get(place_of(id)) else {
+            unreachable!()
+        };
+        match part.attempts.get(at) {
+            None => unreachable!(),
+            Some(attempt) => Some(attempt.asker),
+        }
     }
 
     /// The claim that made a part, and how many parts it had made with it; `None` exactly for a number not made.

@@ -1,4 +1,3 @@
 pub mod Growing
 pub mod Known
-pub mod Quieting
 pub mod Turning
