@@ -13,7 +13,7 @@ mod tests;
 
 use cell_book::{Cells, ClaimRefusal, Work};
 use cell_client::{Sevens, add, fill};
-use cell_shared::{Pass, SharedBook};
+use cell_shared::{Pass, Quiet, SharedBook};
 use seq_values::{CellId, Kind, Value};
 use seq_vector::NoMemory;
 use std::alloc::Global;
@@ -259,6 +259,31 @@ pub fn run_eight<R: Threads + Wait + Sync>(
     );
     book.join(&mut pass, other);
     (pass, all && others)
+}
+
+/// Splits so many passes off, each from the one before, and takes them all in again.
+pub fn regroup(book: &SharedBook<Sevens>, pass: &mut Pass, count: u32) -> Result<(), NoMemory>
+    requires table { pass.old.table ≡ book.now.table }
+    ensures table { (pass.new.table ≡ book.now.table) × (pass.new.leads ≡ pass.old.leads) }
+    ensures claims { IfOk result (λ _. pass.new.claims ≡ pass.old.claims) }
+{
+    if count == 0 {
+        return Ok(());
+    }
+    let mut other = book.split(pass)?;
+    let rest = regroup(book, &mut other, count - 1);
+    book.join(pass, other);
+    rest
+}
+
+/// What there is to find in the book while the work is open.
+pub fn quiet_under<R: Wait>(rt: &R, book: &SharedBook<Sevens>, pass: &mut Pass, by: &Work) -> Quiet
+    requires table { pass.old.table ≡ book.now.table }
+    requires own { Owns (counted pass.old.claims) (glimpse pass.old.seen) by.now }
+    ensures table { (pass.new.table ≡ book.now.table) × (pass.new.leads ≡ pass.old.leads) }
+    ensures own { Owns (counted pass.new.claims) (glimpse pass.new.seen) by.now }
+{
+    book.quiet_view(rt, pass)
 }
 
 /// Both settled all their parts.
