@@ -1,5 +1,8 @@
-use crate::{CompileStop, Expr, Numbers, Program, Top, compile, one_meaning};
 use clj_reader::{Forms, Place, ReadFormsStop, read_forms};
+use clj_script::{
+    CompileStop, Expr, Numbers, Program, Top, closed_later, compile, meaning_is_closed,
+    one_meaning, refused_or_meant, some_meaning,
+};
 use seq_values::{Line, Value, print_atom};
 use std::alloc::Global;
 use std::str;
@@ -143,7 +146,7 @@ const NAMES: [(&str, &str); 26] = [
 ];
 
 /// Special forms with wrong arguments.
-const ARGUMENTS: [(&str, &str); 38] = [
+const ARGUMENTS: [(&str, &str); 41] = [
     ("(prn (if))", "9 1:6"),
     ("(prn (if 1))", "9 1:6"),
     ("(prn (if 1 2 3 4))", "9 1:6"),
@@ -182,10 +185,14 @@ const ARGUMENTS: [(&str, &str); 38] = [
     ("(defn f ([x] 1 2))", "9 1:1"),
     ("(defn f ([x] 1) [y])", "9 1:1"),
     ("(->)", "9 1:1"),
+    // A threading list where a body, a vector or a name has to stand is a list.
+    ("(defn f (->> x ([x])))", "9 1:1"),
+    ("(prn (let (-> [x 1]) x))", "9 1:6"),
+    ("(def (-> a) 1)", "9 1:1"),
 ];
 
 /// Forms out of the profile, and what can't be bound.
-const PROFILE: [(&str, &str); 37] = [
+const PROFILE: [(&str, &str); 43] = [
     ("1", "10 1:1"),
     ("\"text\"", "10 1:1"),
     ("[(prn 1)]", "10 1:1"),
@@ -226,6 +233,14 @@ const PROFILE: [(&str, &str); 37] = [
     ("(prn (-> 1 ()))", "10 1:12"),
     ("(prn (->> 1 [inc]))", "10 1:13"),
     ("(-> 1 2 prn)", "10 1:7"),
+    // A list at the top that is none of the four is looked into.
+    ("(->> reduce case letfn map)", "10 1:18"),
+    ("(-> zz map)", "7 1:5"),
+    // A function's name is known in its bodies, also where it is refused for its spelling.
+    ("(->> r/q (defn r/q []))", "10 1:16"),
+    ("(->> (r/q r/q) (defn r/q []))", "10 1:22"),
+    ("(->> r/q (def r/q))", "7 1:6"),
+    ("(->> r/p (defn r/q []))", "7 1:6"),
 ];
 
 /// Words of the top inside another form, and which refusal comes first.
@@ -277,6 +292,10 @@ fn misjudged(alloc: Global, table: &[(&str, &str)]) -> Result<String, Fail> {
 #[test]
 fn judges_scripts(rt: HostRuntime) -> Result<(), Fail> {
     one_meaning();
+    some_meaning();
+    refused_or_meant();
+    meaning_is_closed();
+    closed_later();
     let tables: [&[(&str, &str)]; 5] = [&SCRIPTS, &NAMES, &ARGUMENTS, &PROFILE, &PLACES];
     for table in tables {
         assert_eq!(rt; misjudged(rt.alloc(), table)?.as_str(), "");
