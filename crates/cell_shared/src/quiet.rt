@@ -26,6 +26,7 @@ pub enum Quiet {
 }
 
 /// What there is to find in a book.
+#[tactic(auto, using(crate::proofs::Quieting::finds_claim, crate::proofs::Quieting::finds_future, crate::proofs::Quieting::finds_totals))]
 fn found(book: &mut Book) -> Quiet
     ensures same { book.new ≡ book.old }
     ensures found { Finds book.old result }
