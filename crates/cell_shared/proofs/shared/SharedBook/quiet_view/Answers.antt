@@ -1,6 +1,7 @@
-use Rattle.std.proofs.Common.{◌≡◌, ℕ, List, sym, ap, subst}
+use Rattle.std.proofs.Common.{◌≡◌, ℕ, List, sym, ap, subst, ◌∙◌}
 use Rattle.cell_book.specs.Account.{Account}
 use Rattle.cell_shared.specs.Growing.{counted}
+use Rattle.cell_shared.specs.Quieting.{Finds}
 use Rattle.cell_shared.specs.Turning.{Sat}
 use Rattle.cell_shared.proofs.Growing.{turns_as}
 use Rattle.cell_shared.proofs.Stepping.{still_turns}
@@ -19,3 +20,8 @@ release-requires-clause-turn g c =
     let same : b ≡ a = c.found-answer.ensures.same in
     has_turn law v _ a b c.take-book.new.chair.me.0.claims c.take-book.ensures.took c.pass.invariant.2 (λ l. subst law (sym same) l)
     (turns_as v.leads mine mine (counted c.take-book.new.chair.me.0.claims) a b (λ x. ap (λ (l : List ℕ). counted l x) (sym kept)) (still_turns v.leads mine a b k.sound k.asks same))
+
+pub returns-clause-found : goal.returns-clause-found
+returns-clause-found g c =
+    let e : c.release.new.chair.me.0.seen ≡ c.found-answer.new.book = ap (λ (m : Sat). m.0.seen) c.release.ensures.rests.1 in
+    subst (λ (z : Account). Finds z c.found-answer.result) (sym (e ∙ c.found-answer.ensures.same)) c.found-answer.ensures.found
