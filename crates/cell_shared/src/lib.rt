@@ -3,11 +3,13 @@
 
 mod calls;
 mod desk;
+mod quiet;
 mod shared;
 mod view;
 mod viewed;
 
 pub use desk::Change;
+pub use quiet::Quiet;
 pub use shared::{Pass, SharedBook};
 pub use view::{Leaves, Meets, Start, View};
 pub use viewed::Viewed;
