@@ -258,8 +258,20 @@ fn one_more<C: Cells>(cells: &mut C, by: &Work) -> bool
     ensures law { LawIs (C.alone cells.new) (C.law cells.new) (C.noted cells.new) IsSevens }
     ensures same { C.same cells.old cells.new }
 {
-    match add(cells, by, Kind::Lazy) {
-        Err(_) => false,
-        Ok(id) => settle(cells, by, id).is_ok(),
+    match made(add(cells, by, Kind::Lazy)) {
+        None => false,
+        Some(id) => is_settled(settle(cells, by, id)),
     }
+}
+
+/// The part that was made, if one was.
+fn made(answer: Result<CellId, MakeRefusal>) -> Option<CellId> {
+    match answer {
+        Ok(id) => Some(id),
+        Err(_) => None,
+    }
+}
+
+fn is_settled(answer: Result<(), ClaimRefusal>) -> bool {
+    answer.is_ok()
 }
