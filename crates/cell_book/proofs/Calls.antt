@@ -16,9 +16,9 @@ use Rattle.cell_book.specs.declared.work.Place.{Place}
 use Rattle.cell_book.specs.declared.work.Place.TheVariants as P
 use Rattle.cell_book.specs.Account.{Account, Duty, cell_at, closed, is_open, forces, made_by, IsFresh}
 use Rattle.cell_book.specs.Steps.{renumbered, with_cell, with_form, begun_form, new_cell, claimed, after_claim, shown, cell_counts, form_counts, HasCount, HasOpen, IsOpenIn, IsOpenAsker, asker_of, EndsForm}
-use Rattle.cell_book.specs.Kept.{CountsMakes, IsKept}
+use Rattle.cell_book.specs.Kept.{CountsMakes}
 use Rattle.cell_book.proofs.Lists.{length_push}
-use Rattle.cell_book.proofs.Keeping.{made_most, made_kept, claimed_kept, ended_kept, form_kept, open_named}
+use Rattle.cell_book.proofs.Keeping.{made_most, open_named}
 
 pub made_within : (a : Account) (claim : ℕ) → length (made_by claim a) ≤ length a.cells
 made_within a claim = made_most claim a.cells 1
@@ -52,24 +52,6 @@ open_counted a cm fm w m o = at w.place o
         let l = slice_get_within a.cells i p f in
         let s = m.cells_long in
         let k = length_push cm 0 in omega arith
-
--- another note
-pub noted_kept : (a : Account) (cm fm : List ℕ) (settled : List Value) (next : ℕ) (spent gave_up : Bool) → IsKept a cm fm settled next → IsKept (record { limit = a.limit; cells = a.cells; forms = a.forms; spent = spent; gave_up = gave_up }) cm fm settled next
-noted_kept a cm fm settled next spent gave_up k = record {
-  sound = record { once = k.sound.once; within = k.sound.within };
-  fresh = λ c h. record { cells = (k.fresh c h).cells; forms = (k.fresh c h).forms };
-  makes = record { cells_long = k.makes.cells_long; forms_long = k.makes.forms_long; of_cells = k.makes.of_cells; of_forms = k.makes.of_forms };
-  settled_first = k.settled_first;
-}
-
-pub made_kept_as : (a : Account) (cm fm : List ℕ) (settled : List Value) (next n : ℕ) (by : Duty) (t : Term) (kind : Kind) (cells : List Cell) (cm1 cm2 fm2 : List ℕ) → IsKept a cm fm settled next → IsOpenIn a by → length a.cells < a.limit → n ≡ length (made_by by.claim a) + 1 →
-    cells ≡ a.cells ++ new_cell a by t kind ∷ [] → cm1 ≡ cm ++ 0 ∷ [] → cm2 ≡ cell_counts by.place cm1 n → fm2 ≡ form_counts by.place fm n → IsKept (record a { cells = cells }) cm2 fm2 settled next
-made_kept_as a cm fm settled next n by t kind cells cm1 cm2 fm2 k o h e c1 c2 c3 c4 =
-    subst (λ (z : List Cell × List ℕ × List ℕ). IsKept (record a { cells = z.0 }) z.1 z.2 settled next) (λ i. (sym c1 i, sym (c3 ∙ ap (λ l. cell_counts by.place l n) c2) i, sym c4 i)) (made_kept a cm fm settled next n by t kind k o h (omega arith))
-
-pub claimed_kept_as : (a : Account) (cm fm : List ℕ) (settled : List Value) (next id i : ℕ) (asker : Option ℕ) (p : Cell) (cells : List Cell) → IsKept a cm fm settled next → slice_get a.cells i ≡ Some p → p.state ≡ S.Empty → ((c : ℕ) → IsFresh a c → asker ≢ Some c) →
-    cells ≡ slice_set a.cells i (claimed p next asker) → IsKept (record a { cells = cells }) (slice_set cm i 0) fm settled (next + 1)
-claimed_kept_as a cm fm settled next id i asker p cells k e s named g = subst (λ (z : List Cell). IsKept (record a { cells = z }) (slice_set cm i 0) fm settled (next + 1)) (sym g) (claimed_kept a cm fm settled next i asker p k e s (λ c h. named c (k.fresh c h)))
 
 -- the empty cell that is read
 pub is_empty_at : (a : Account) (id i : ℕ) (p : Cell) → i + 1 ≡ id → slice_get a.cells i ≡ Some p → shown (cell_at a id) ≡ L.Empty → (cell_at a id ≡ Some p) × (p.state ≡ S.Empty)
@@ -113,18 +95,12 @@ pub end_returns : (a : Account) (id i claim : ℕ) (asker : Option ℕ) (past : 
 end_returns a id i claim asker past end state p old new e g writes at h =
     ap (λ (x : Cell). record a { cells = slice_set a.cells i x }) (end_is a id i claim asker past end state p old new e g writes at h) ∙ set_place a id i (after_claim p claim asker past end state) e
 
-pub end_kept : (a : Account) (cm fm : List ℕ) (settled : List Value) (next id i : ℕ) (end : ClaimEnd) (state : State) (old new : Cell) → IsKept a cm fm settled next → i + 1 ≡ id → old ≡ get_or a.cells i old → ((c : ℕ) (asker : Option ℕ) (past : List Attempt) → HasOpen old c asker past → new ≡ after_claim old c asker past end state) →
-    ((p : Cell) × (claim : ℕ) × (asker : Option ℕ) × (past : List Attempt) × (cell_at a id ≡ Some p) × HasOpen p claim asker past) → ((c : ℕ) → forces c state ≡ false) → IsKept (record a { cells = slice_set a.cells i new }) cm fm settled next
-end_kept a cm fm settled next id i end state old new k e g writes (p, claim, asker, past, at, h) idle =
-    subst (λ (x : Cell). IsKept (record a { cells = slice_set a.cells i x }) cm fm settled next) (sym (end_is a id i claim asker past end state p old new e g writes at h)) (ended_kept a cm fm settled next i claim asker past end state p k (at_place a id i p e at) h idle)
-
 pub form_is : (a : Account) (k number claim : ℕ) (end : ClaimEnd) (value : Option Value) (old new : Form) → slice_get a.forms k ≡ Some (begun_form number claim) → old ≡ get_or a.forms k old → new ≡ record old { attempt = record old.attempt { end = end }; value = value } → new ≡ record { number = number; attempt = closed claim None end; value = value }
 form_is a k number claim end value old new at g w =
     let l = slice_get_within a.forms k (begun_form number claim) at in
     let same : begun_form number claim ≡ old = same_Some (begun_form number claim) old (sym at ∙ read_at a.forms k old l g) in
     w ∙ ap (λ (x : Form). record x { attempt = record x.attempt { end = end }; value = value }) (sym same)
 
-pub form_end_kept : (a : Account) (cm fm : List ℕ) (settled settled2 : List Value) (next k : ℕ) (end : ClaimEnd) (value : Option Value) (old new : Form) → IsKept a cm fm settled next → ((number : ℕ) × (claim : ℕ) × (slice_get a.forms k ≡ Some (begun_form number claim))) → is_open end ≡ false → old ≡ get_or a.forms k old →
-    new ≡ record old { attempt = record old.attempt { end = end }; value = value } → (settled2 ≡ []) ⊎ ((settled2 ≡ settled) × (length settled ≤ k)) → IsKept (record a { forms = slice_set a.forms k new }) cm fm settled2 next
-form_end_kept a cm fm settled settled2 next k end value old new kept (number, claim, at) n g w s =
-    subst (λ (x : Form). IsKept (record a { forms = slice_set a.forms k x }) cm fm settled2 next) (sym (form_is a k number claim end value old new at g w)) (form_kept a cm fm settled settled2 next k number claim end value kept at n s)
+-- the place of a cell that is forced
+pub forced_within : (a : Account) (id i claim : ℕ) → i + 1 ≡ id → ((p : Cell) × (asker : Option ℕ) × (past : List Attempt) × (cell_at a id ≡ Some p) × HasOpen p claim asker past) → i < length a.cells
+forced_within a id i claim e (p, asker, past, at, h) = slice_get_within a.cells i p (at_place a id i p e at)

@@ -18,7 +18,7 @@ use Rattle.cell_book.specs.Account.{Account, Duty, opened, closed, is_open, forc
 use Rattle.cell_book.specs.Steps.{with_cell, with_form, begun_form, new_cell, claimed, after_claim, values_in, cell_counts, form_counts, HasOpen, IsOpenIn}
 use Rattle.cell_book.specs.Kept.{CountsMakes, IsKept}
 use Rattle.cell_book.proofs.Lists.{get_snoc, get_set, get_last, get_longer, length_push, length_set}
-use Rattle.cell_book.proofs.Values.{values_long, take_push, take_set}
+use Rattle.cell_book.proofs.Values.{values_long, take_push, settled_set}
 use Rattle.cell_book.proofs.Opening.{numbered_some, fresh_made, begun_sound, made_sound, claimed_sound, ended_sound, form_sound, one_cell, one_form, cell_or_form}
 
 -- the claim of an open work is named in the book
@@ -175,11 +175,6 @@ begun_kept a cm fm settled next number k = record {
         let t0 = t.0 in
         let l = m.forms_long in absurd (omega arith)
     forms i n c x e (inr s) g (inr t) = m.of_forms i n c x s t
-
-pub begun_kept_as : (a : Account) (cm fm : List ℕ) (settled : List Value) (next number : ℕ) (forms : List Form) (fm2 : List ℕ) (settled2 : List Value) → IsKept a cm fm settled next →
-    forms ≡ a.forms ++ begun_form number next ∷ [] → fm2 ≡ fm ++ 0 ∷ [] → settled2 ≡ values_in a.forms → IsKept (record a { forms = forms }) cm fm2 settled2 (next + 1)
-begun_kept_as a cm fm settled next number forms fm2 settled2 k e g h =
-    subst (λ (z : List Form × List ℕ × List Value). IsKept (record a { forms = z.0 }) cm z.1 z.2 (next + 1)) (λ i. (sym e i, sym g i, sym h i)) (begun_kept a cm fm settled next number k)
 
 empty_forcing : (c : ℕ) → S.Empty ≡ S.Forcing c → ⊥
 empty_forcing c e = cc
@@ -342,9 +337,9 @@ ended_kept a cm fm settled next i claim asker past end state p k e h idle = reco
     cells j c y x s g (inl u) = absurd (other c (ap (λ (z : Cell). z.state) u.1 ∙ s))
     cells j c y x s g (inr u) = m.of_cells j c y x u.1 s g ∙ sym (ap length (same c))
 
--- the claim on a form ends; the values that are there already are those of the forms before it, or none
+-- the claim on a form ends; of the values that are there already those of the forms before it stay
 pub form_kept : (a : Account) (cm fm : List ℕ) (settled settled2 : List Value) (next k number claim : ℕ) (end : ClaimEnd) (value : Option Value) → IsKept a cm fm settled next → slice_get a.forms k ≡ Some (begun_form number claim) → is_open end ≡ false →
-    (settled2 ≡ []) ⊎ ((settled2 ≡ settled) × (length settled ≤ k)) → IsKept (with_form a k (record { number = number; attempt = closed claim None end; value = value })) cm fm settled2 next
+    settled2 ≡ take k settled → IsKept (with_form a k (record { number = number; attempt = closed claim None end; value = value })) cm fm settled2 next
 form_kept a cm fm settled settled2 next k number claim end value kept e n s = record {
   sound = form_sound a k number claim end value e n kept.sound;
   fresh = λ c l. form_fresh a k number claim end value c e (kept.fresh c l);
@@ -362,6 +357,5 @@ form_kept a cm fm settled settled2 next k number claim end value kept e n s = re
     forms j v c y g (inl u) = let z = sym n ∙ ap (λ (f : Form). is_open f.attempt.end) u.1 in absurd cc
     forms j v c y g (inr u) = m.of_forms j v c y u.1 g
 
-    first : (settled2 ≡ []) ⊎ ((settled2 ≡ settled) × (length settled ≤ k)) → settled2 ≡ take (length settled2) (values_in (slice_set a.forms k q))
-    first (inl u) = subst (λ (l : List Value). l ≡ take (length l) (values_in (slice_set a.forms k q))) (sym u) refl
-    first (inr u) = subst (λ (l : List Value). l ≡ take (length l) (values_in (slice_set a.forms k q))) (sym u.0) (kept.settled_first ∙ sym (take_set a.forms q (length settled) k u.1))
+    first : settled2 ≡ take k settled → settled2 ≡ take (length settled2) (values_in (slice_set a.forms k q))
+    first u = subst (λ (l : List Value). l ≡ take (length l) (values_in (slice_set a.forms k q))) (sym u) (settled_set a.forms k q settled kept.settled_first)

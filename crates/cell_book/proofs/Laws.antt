@@ -1,5 +1,6 @@
 -- A law P over each call: the book of the call meets it, what meets it is lawful, and after a step to a book that meets it all is as before.
 use Rattle.std.proofs.Common.{◌≡◌, ◌≢◌, ℕ, Result, Ok, Err, ◌+◌, ◌-◌, ◌<◌, Bool, true, false, refl, ap, sym, subst, arith}
+use Rattle.std.specs.Prelude.{IfOk}
 use Rattle.cell_book.specs.Account.{Account, Duty}
 use Rattle.cell_book.specs.Glimpses.{after_open, glimpse, Holds, Sees, Owns, Glimpse, Fits, LawIs, at_claim}
 use Rattle.cell_book.proofs.Onwards.{fits_onward, holds_then, holds_seen, open_onward}
@@ -35,13 +36,17 @@ still_held mine mine2 w c h m = omega arith
 pub new_claim : (mine : ℕ → ℕ) (w : Duty) (c : ℕ) → mine w.claim ≡ 0 → 0 < mine c → c ≢ w.claim
 new_claim mine w c z m = λ e. (let k : mine c ≡ mine w.claim = ap mine e in absurd (omega arith))
 
+pub apart_if : {E : Type 0} (mine : ℕ → ℕ) (answer : Result Duty E) (c : ℕ) → IfOk answer (λ (w : Duty). mine w.claim ≡ 0) → 0 < mine c → IfOk answer (λ (w : Duty). c ≢ w.claim)
+apart_if mine (Ok w) c z m = new_claim mine w c z m
+apart_if mine (Err r) c z m = tt
+
 pub ended_held : (mine mine2 : ℕ → ℕ) (w : Duty) (c : ℕ) → mine2 c ≡ mine c - at_claim w.claim c → c ≢ w.claim → 0 < mine c → 0 < mine2 c
 ended_held mine mine2 w c h n m = let t = at_claim_other w.claim c (λ e. n (sym e)) in omega arith
 
 -- what it owns it owns after a step that holds it
 pub still_owns : (alone leads : Bool) (law noted : Account → Type 0) (g h : Glimpse) (mine mine2 : ℕ → ℕ) (a b : Account) (w : Duty) → Owns mine g w → Fits alone leads law noted g mine a → Holds w.claim (glimpse a) (glimpse b) → Sees leads mine2 g b h → 0 < mine2 w.claim → Owns mine2 h w
 still_owns alone leads law noted g h mine mine2 a b w o f x s m =
-    (m, open_onward w g h (holds_seen leads mine2 w.claim g b h (holds_then w.claim g (glimpse a) (glimpse b) ((fits_onward alone leads law noted g mine a w.claim f o.0).holds) x) s) o.1)
+    (m, open_onward w g h (holds_seen leads mine2 w.claim g b h (holds_then w.claim g (glimpse a) (glimpse b) ((fits_onward alone leads law noted g mine a w.claim f o.0).holds) x) s m) o.1)
 
 pub open_held : {E : Type 0} (mine : ℕ → ℕ) (answer : Result Duty E) (c : ℕ) → 0 < mine c → 0 < after_open mine answer c
 open_held mine (Ok w) c m = omega arith

@@ -7,3 +7,7 @@ pub mod Stepping
 pub mod Onwards
 pub mod Moves
 pub mod Laws
+pub mod Registering
+pub mod Counting
+pub mod Wholes
+pub mod Finding

@@ -43,6 +43,15 @@ same_or (suc j) (suc i) = by (same_or j i)
     by (inl e) = inl (ap suc e)
     by (inr n) = inr (λ e. let f : j ≡ i = cc in n f)
 
+pub below_or : (j i : ℕ) → (j < i) ⊎ (i ≤ j)
+below_or j zero = inr (omega arith)
+below_or zero (suc i) = inl (omega arith)
+below_or (suc j) (suc i) = by (below_or j i)
+  where
+    by : (j < i) ⊎ (i ≤ j) → (suc j < suc i) ⊎ (suc i ≤ suc j)
+    by (inl h) = inl (omega arith)
+    by (inr h) = inr (omega arith)
+
 pub set_other : {X : Type 0} (xs : List X) (i j : ℕ) (q : X) → j ≢ i → slice_get (slice_set xs i q) j ≡ slice_get xs j
 set_other [] i j q n = refl
 set_other (x ∷ xs) zero zero q n = absurd (n refl)

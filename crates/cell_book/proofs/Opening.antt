@@ -11,7 +11,7 @@ use Rattle.cell_book.specs.declared.cell.ClaimEnd.{ClaimEnd}
 use Rattle.cell_book.specs.declared.cell.Attempt.{Attempt}
 use Rattle.cell_book.specs.declared.cell.Cell.{Cell}
 use Rattle.cell_book.specs.declared.cell.Form.{Form}
-use Rattle.cell_book.specs.Account.{Account, Duty, numbered, cell_at, closed, is_open, forces, runs, opens, made_by, made_from, IsFresh, IsSound}
+use Rattle.cell_book.specs.Account.{Account, Duty, numbered, cell_at, closed, is_open, forces, runs, opens, made_by, made_from, is_asker, asked_by, asked_at, IsFresh, IsSound}
 use Rattle.cell_book.specs.Steps.{renumbered, with_cell, with_form, begun_form, new_cell, claimed, after_claim, HasOpen}
 use Rattle.cell_book.specs.Glimpses.{at_claim}
 use Rattle.cell_book.proofs.Lists.{count_push, count_set, counts_one, counts_two, counts_none, is_one, is_none, length_set, length_push}
@@ -87,6 +87,25 @@ fresh_from c n (p ∷ ps) f =
 
 pub fresh_made : (a : Account) (c : ℕ) → IsFresh a c → made_by c a ≡ []
 fresh_made a c f = fresh_from c 1 a.cells (λ i p e. (f.cells i p e).maker)
+
+asked_none : (c : ℕ) (xs : List Attempt) → ((i : ℕ) (x : Attempt) → slice_get xs i ≡ Some x → x.asker ≢ Some c) → asked_by c xs ≡ []
+asked_none c [] f = refl
+asked_none c (x ∷ xs) f =
+    let e = asked_none c xs (λ i y h. f (suc i) y h) in
+    ap (λ (t : Bool). cond t (x ∷ asked_by c xs) (asked_by c xs)) (asker_other x.asker (f 0 x refl)) ∙ e
+  where
+    asker_other : (o : Option ℕ) → o ≢ Some c → is_asker c o ≡ false
+    asker_other None n = refl
+    asker_other (Some d) n = ne_eqb d c (λ e. n (ap Some e))
+
+-- a fresh claim asked for nothing
+pub fresh_asked : (a : Account) (c : ℕ) → IsFresh a c → (id : ℕ) → asked_at c (cell_at a id) ≡ []
+fresh_asked a c f zero = refl
+fresh_asked a c f (suc i) = at (slice_get a.cells i) refl
+  where
+    at : (o : Option Cell) → slice_get a.cells i ≡ o → asked_at c o ≡ []
+    at None e = refl
+    at (Some p) e = asked_none c p.attempts (λ j x h. ((f.cells i p e).attempts j x h).1)
 
 -- two places that one claim has open
 pub one_cell : (a : Account) (c i j : ℕ) (p q : Cell) → IsSound a → slice_get a.cells i ≡ Some p → slice_get a.cells j ≡ Some q → p.state ≡ S.Forcing c → q.state ≡ S.Forcing c → i ≢ j → ⊥

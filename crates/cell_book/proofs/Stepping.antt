@@ -1,13 +1,13 @@
 -- What each step tells of a whole book: how often claims are open, that it stays sound, and that the work given is open and new.
-use Rattle.std.proofs.Common.{◌≡◌, ℕ, zero, suc, ◌+◌, ◌-◌, Bool, true, false, List, length, Some, None, Option, Ok, Err, refl, ap, sym, subst, ◌∙◌, arith, inr}
-use Rattle.std.specs.Prelude.{slice_get, IfOk}
+use Rattle.std.proofs.Common.{◌≡◌, ℕ, zero, suc, ◌+◌, ◌-◌, Bool, true, false, cond, List, length, Some, None, Option, Ok, Err, refl, ap, sym, subst, ◌∙◌, arith, inl, inr}
+use Rattle.std.specs.Prelude.{slice_get, IfOk, IfErr, IfSome}
 use Rattle.std.proofs.lemmas.Option.{none-some}
 use Rattle.seq_base.specs.declared.thrown.Thrown.{Thrown}
 use Rattle.seq_values.specs.declared.value.Value.{Value}
 use Rattle.seq_values.specs.declared.term.Term.{Term}
 use Rattle.seq_values.specs.declared.words.Kind.{Kind}
-use Rattle.seq_values.specs.declared.words.Kind.TheVariants.{Lazy, Future}
 use Rattle.cell_book.specs.declared.answers.MakeRefusal.TheVariants as M
+use Rattle.cell_book.specs.declared.answers.ClaimRefusal.TheVariants as C
 use Rattle.cell_book.specs.declared.cell.State.{State}
 use Rattle.cell_book.specs.declared.cell.State.TheVariants as S
 use Rattle.cell_book.specs.declared.cell.ClaimEnd.{ClaimEnd}
@@ -16,10 +16,11 @@ use Rattle.cell_book.specs.declared.cell.Attempt.{Attempt}
 use Rattle.cell_book.specs.declared.cell.Cell.{Cell}
 use Rattle.cell_book.specs.declared.work.Place.{Place}
 use Rattle.cell_book.specs.declared.work.Place.TheVariants as P
-use Rattle.cell_book.specs.Account.{Account, Duty, cell_at, is_open, forces, opens, IsSound}
-use Rattle.cell_book.specs.Steps.{begun_form, claimed, BeginAnswer, MakeAnswer, ClaimAnswer, HasOpen, Begins, Makes, Claims, Opens, Ends, Finishes, Fails, GivesUp, failed_state, IsOpenIn}
-use Rattle.cell_book.specs.Glimpses.{glimpse, Glimpse, Sees, SeesPlace, IsOpen, at_claim, after_open, after_end}
+use Rattle.cell_book.specs.Account.{Account, Duty, new_book, cell_at, is_open, forces, opens, IsSound}
+use Rattle.cell_book.specs.Steps.{begun_form, claimed, BeginAnswer, MakeAnswer, FutureAnswer, ClaimAnswer, HasOpen, FindsFuture, Begins, Makes, Claims, Opens, Ends, Finishes, Fails, GivesUp, failed_state, IsOpenIn}
+use Rattle.cell_book.specs.Glimpses.{glimpse, Glimpse, Sees, SeesCell, SeesPlace, SeesSpent, SeesGaveUp, IsOpen, at_claim, after_open, after_end}
 use Rattle.cell_book.proofs.Lists.{get_last, set_here}
+use Rattle.cell_book.proofs.Moves.{failed_idle}
 use Rattle.cell_book.proofs.Opening.{begun_opens, made_opens, claimed_opens, ended_opens, form_opens, fresh_opens, begun_sound, made_sound, claimed_sound, ended_sound, form_sound}
 
 -- claims that are open
@@ -45,10 +46,6 @@ ends_opens a b w end state value n idle h c = at w.place h
     at : (x : Place) → Ends a (record { place = x; claim = w.claim; outcomes = w.outcomes }) end state value b → opens c b ≡ opens c a - at_claim w.claim c
     at (P.Form number k) (e, is) = ap (opens c) is ∙ minus _ _ _ (form_opens a k number w.claim end value c e n)
     at (P.Part id kind term) (p, asker, past, e, o, is) = ap (opens c) is ∙ minus _ _ _ (ended_opens a id w.claim asker past end (state p.kind) p c e o (idle p.kind c))
-
-failed_idle : (why : Thrown) (k : Kind) (c : ℕ) → forces c (failed_state why k) ≡ false
-failed_idle why Lazy c = refl
-failed_idle why Future c = refl
 
 pub finishes_opens : (a b : Account) (w : Duty) (v : Value) → Finishes a w v b → (c : ℕ) → opens c b ≡ after_end (λ x. opens x a) w c
 finishes_opens a b w v h c = ends_opens a b w E.Value (λ _. S.Done v) (Some v) refl (λ k d. refl) h c
@@ -99,6 +96,9 @@ pub begins_sound : (a b : Account) (number : ℕ) (answer : BeginAnswer) → IsS
 begins_sound a b number (Ok w) s h = subst IsSound (sym h.3) (begun_sound a number w.claim h.2 s)
 begins_sound a b number (Err r) s h = subst IsSound (sym h) s
 
+pub new_sound : (limit : ℕ) → IsSound (new_book limit)
+new_sound limit = record { once = λ c. omega arith; within = omega arith }
+
 noted_sound : (a : Account) (spent gave_up : Bool) → IsSound a → IsSound (record { limit = a.limit; cells = a.cells; forms = a.forms; spent = spent; gave_up = gave_up })
 noted_sound a spent gave_up s = record { once = s.once; within = s.within }
 
@@ -129,7 +129,35 @@ gives_up_sound a b w s (m, h, e) = subst IsSound (sym e) (noted_sound m m.spent 
 
 -- the whole book was seen
 pub sees_whole : (leads : Bool) (mine : ℕ → ℕ) (g : Glimpse) (b : Account) → Sees leads mine g b (glimpse b)
-sees_whole leads mine g b = record { limit = refl; cells = λ id. inr refl; forms = λ k. inr refl; begun = λ is. refl; made = λ c m. refl; asked = λ c m id. refl; spent = inr refl; gave_up = inr refl }
+sees_whole leads mine g b = record { limit = refl; cells = λ id. inr (inl refl); forms = λ k. inr (inl refl); begun = λ is. refl; made = λ c m. refl; asked = λ c m id. refl; spent = inr refl; gave_up = inr refl }
+
+-- a future that was found
+pub finds_same : (a b : Account) (answer : FutureAnswer) → FindsFuture a answer b → b ≡ a
+finds_same a b None h = h.0
+finds_same a b (Some id) h = h.0
+
+pub sees_future : (answer : FutureAnswer) (b : Account) → IfSome answer (λ (id : ℕ). SeesCell id b (glimpse b))
+sees_future None b = tt
+sees_future (Some id) b = refl
+
+-- the notes were seen
+pub sees_spent : (a b : Account) (by : Duty) (t : Term) (k : Kind) (answer : MakeAnswer) → Makes a by t k answer b → IfErr answer (λ r. SeesSpent r (glimpse b))
+sees_spent a b by t k (Ok id) h = tt
+sees_spent a b by t k (Err (M.Spent back)) h = ap (λ (x : Account). x.spent) h.2
+sees_spent a b by t k (Err (M.Memory back)) h = tt
+
+barred_gave_up : (spent gave_up : Bool) → cond spent false gave_up ≡ true → gave_up ≡ true
+barred_gave_up true g e = absurd cc
+barred_gave_up false g e = e
+
+pub sees_gave_up : (a b : Account) (id : ℕ) (asker : Option ℕ) (answer : ClaimAnswer) → Claims a id asker answer b → IfErr answer (λ r. SeesGaveUp r (glimpse b))
+sees_gave_up a b id asker (Ok w) h = tt
+sees_gave_up a b id asker (Err (C.Seen l)) h = tt
+sees_gave_up a b id asker (Err C.GaveUp) h = ap (λ (x : Account). x.gave_up) h.0 ∙ barred_gave_up a.spent a.gave_up h.1.1
+sees_gave_up a b id asker (Err C.Memory) h = tt
+
+pub given_up_noted : (a b : Account) (w : Duty) → GivesUp a w b → b.gave_up ≡ true
+given_up_noted a b w (m, h, e) = ap (λ (x : Account). x.gave_up) e
 
 pub sees_place : (x : Place) (b : Account) → SeesPlace x b (glimpse b)
 sees_place (P.Form number k) b = refl

@@ -2,6 +2,7 @@
 use Rattle.std.proofs.Common.{◌≡◌, ℕ, zero, suc, ◌+◌, ◌<◌, ◌≤◌, List, [], ◌∷◌, ◌++◌, length, take, get_or, refl, ap, sym, ◌∙◌, subst, arith}
 use Rattle.std.specs.Prelude.{slice_set, unwrap_or}
 use Rattle.std.proofs.lemmas.List.{take_all, take-append-le}
+use Rattle.seq_values.specs.declared.value.Value.{Value}
 use Rattle.seq_values.specs.declared.value.Value.TheVariants.{Nil}
 use Rattle.cell_book.specs.declared.cell.Form.{Form}
 use Rattle.cell_book.specs.Steps.{values_in}
@@ -34,3 +35,37 @@ take_set [] f n k h = refl
 take_set (g ∷ fs) f zero k h = refl
 take_set (g ∷ fs) f (suc n) zero h = absurd (omega arith)
 take_set (g ∷ fs) f (suc n) (suc k) h = ap (λ l. unwrap_or g.value Nil ∷ l) (take_set fs f n k (omega arith))
+
+pub take_full : {X : Type 0} (xs : List X) → take (length xs) xs ≡ xs
+take_full [] = refl
+take_full (x ∷ xs) = ap (λ l. x ∷ l) (take_full xs)
+
+-- fewer of the first
+pub take_less : {X : Type 0} (xs : List X) (m n : ℕ) → m ≤ n → take m xs ≡ take m (take n xs)
+take_less [] zero n h = refl
+take_less [] (suc m) zero h = absurd (omega arith)
+take_less [] (suc m) (suc n) h = refl
+take_less (x ∷ xs) zero n h = refl
+take_less (x ∷ xs) (suc m) zero h = absurd (omega arith)
+take_less (x ∷ xs) (suc m) (suc n) h = ap (λ l. x ∷ l) (take_less xs m n (omega arith))
+
+pub take_all_of : {X : Type 0} (xs : List X) (m n : ℕ) → n ≤ m → take n xs ≡ take m (take n xs)
+take_all_of [] zero zero h = refl
+take_all_of [] (suc m) zero h = refl
+take_all_of [] zero (suc n) h = refl
+take_all_of [] (suc m) (suc n) h = refl
+take_all_of (x ∷ xs) zero zero h = refl
+take_all_of (x ∷ xs) (suc m) zero h = refl
+take_all_of (x ∷ xs) zero (suc n) h = absurd (omega arith)
+take_all_of (x ∷ xs) (suc m) (suc n) h = ap (λ l. x ∷ l) (take_all_of xs m n (omega arith))
+
+-- the first values before a form stay where it ends
+pub settled_set : (fs : List Form) (k : ℕ) (q : Form) (settled : List Value) → settled ≡ take (length settled) (values_in fs) → take k settled ≡ take (length (take k settled)) (values_in (slice_set fs k q))
+settled_set fs zero q [] e = refl
+settled_set fs zero q (s ∷ settled) e = refl
+settled_set fs (suc k) q [] e = refl
+settled_set [] (suc k) q (s ∷ settled) e = absurd cc
+settled_set (f ∷ fs) (suc k) q (s ∷ settled) e =
+    let h : s ≡ unwrap_or f.value Nil = cc in
+    let t : settled ≡ take (length settled) (values_in fs) = cc in
+    ap (λ (v : Value). v ∷ take k settled) h ∙ ap (λ l. unwrap_or f.value Nil ∷ l) (settled_set fs k q settled t)

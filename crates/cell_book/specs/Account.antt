@@ -20,7 +20,11 @@ pub record Account : Type 0 where
   -- a work was given up
   pub gave_up : Bool
 
--- What contracts see of a work: the form or the part that it is on, its claim, and the values of the forms before.
+-- a book without cells and forms
+abbrev pub new_book : ℕ → Account
+new_book limit = record { limit = limit; cells = []; forms = []; spent = false; gave_up = false }
+
+-- What contracts see of a work: the form or the part that it is on, its claim, and its outcomes, the values of the forms before. Of an outcome that of a `def` form alone is meant: what any other form gave (the text of a `prn`, or nil) stands in its place, and no body names it. So outcomes are compared by `referred` of `seq_meaning`, which reads nil there.
 pub record Duty : Type 0 where
   pub place : Place
   pub claim : ℕ
@@ -71,10 +75,10 @@ abbrev pub is_asker : ℕ → Option ℕ → Bool
 is_asker claim None = false
 is_asker claim (Some c) = c == claim
 
--- the attempts in the list that ended, and that the claim asked for
+-- the attempts in the list that the claim asked for, ended or open
 abbrev pub asked_by : ℕ → List Attempt → List Attempt
 asked_by claim [] = []
-asked_by claim (x ∷ xs) = cond (cond (is_open x.end) false (is_asker claim x.asker)) (x ∷ asked_by claim xs) (asked_by claim xs)
+asked_by claim (x ∷ xs) = cond (is_asker claim x.asker) (x ∷ asked_by claim xs) (asked_by claim xs)
 
 abbrev pub asked_at : ℕ → Option Cell → List Attempt
 asked_at claim None = []

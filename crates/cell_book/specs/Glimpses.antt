@@ -3,13 +3,17 @@ use Rattle.std.specs.Prelude.{◌≡◌, ◌≢◌, ℕ, ◌+◌, ◌-◌, ◌<�
 use Rattle.seq_base.specs.declared.thrown.Thrown.{Thrown}
 use Rattle.seq_values.specs.declared.value.Value.{Value}
 use Rattle.seq_values.specs.declared.words.Kind.TheVariants.{Future}
+use Rattle.cell_book.specs.declared.answers.MakeRefusal.{MakeRefusal}
+use Rattle.cell_book.specs.declared.answers.MakeRefusal.TheVariants as M
+use Rattle.cell_book.specs.declared.answers.ClaimRefusal.{ClaimRefusal}
+use Rattle.cell_book.specs.declared.answers.ClaimRefusal.TheVariants as C
 use Rattle.cell_book.specs.declared.cell.State.TheVariants as S
 use Rattle.cell_book.specs.declared.cell.Attempt.{Attempt}
 use Rattle.cell_book.specs.declared.cell.Cell.{Cell}
 use Rattle.cell_book.specs.declared.cell.Form.{Form}
 use Rattle.cell_book.specs.declared.work.Place.{Place}
 use Rattle.cell_book.specs.declared.work.Place.TheVariants as P
-use Rattle.cell_book.specs.Account.{Account, Duty, cell_at, is_open, opens, made_by, asked_at, begun, IsSound}
+use Rattle.cell_book.specs.Account.{Account, Duty, cell_at, opened, is_open, opens, made_by, asked_at, begun, IsSound}
 use Rattle.cell_book.specs.Steps.{begun_form, HasOpen, IsOpenAt}
 
 pub record Glimpse : Type 0 where
@@ -19,7 +23,7 @@ pub record Glimpse : Type 0 where
   pub forms : ℕ → Option Form
   -- the numbers of the forms begun, if one may begin forms
   pub begun : List ℕ
-  -- of one's open claims: the numbers of the cells that each made, and at each cell the ended attempts that it asked for
+  -- of one's open claims: the numbers of the cells that each made, and at each cell the attempts that it asked for, ended or open
   pub made : ℕ → List ℕ
   pub asked : ℕ → ℕ → List Attempt
   -- the notes
@@ -81,11 +85,13 @@ pub record IsForced (g : Glimpse) (id claim : ℕ) (asker : Option ℕ) : Type 0
 abbrev pub IsOpen : Glimpse → Duty → Type 0
 IsOpen g w = IsOpenAt g.cells g.forms w
 
--- as far as the claim goes, all that was seen of what it has open stays
+-- All that was seen stays, and the claim has the same cells and forms open in both.
 pub record Holds (c : ℕ) (g h : Glimpse) : Type 0 where
   pub reaches : Reaches g h
   pub forced : (id : ℕ) (asker : Option ℕ) → IsForced g id c asker → IsForced h id c asker
+  pub forced_back : (id : ℕ) (asker : Option ℕ) → IsForced h id c asker → IsForced g id c asker
   pub begun : (k number : ℕ) → g.forms k ≡ Some (begun_form number c) → h.forms k ≡ Some (begun_form number c)
+  pub begun_back : (k number : ℕ) → h.forms k ≡ Some (begun_form number c) → g.forms k ≡ Some (begun_form number c)
 
 -- As far as the open claim goes, nothing was lost and nothing of its own was added.
 pub record Onward (c : ℕ) (g h : Glimpse) : Type 0 where
@@ -93,11 +99,20 @@ pub record Onward (c : ℕ) (g h : Glimpse) : Type 0 where
   pub made : h.made c ≡ g.made c
   pub asked : (id : ℕ) → h.asked c id ≡ g.asked c id
 
--- As far as the open claim goes, nothing was lost and nothing was made; an attempt that it asked for ended.
+-- As far as the open claim goes, nothing was lost and nothing was made; it asked for one more claim, on this cell.
+pub record AskedOne (c : ℕ) (id : ℕ) (claim : ℕ) (g h : Glimpse) : Type 0 where
+  pub holds : Holds c g h
+  pub made : h.made c ≡ g.made c
+  pub here : h.asked c id ≡ g.asked c id ++ opened claim (Some c) ∷ []
+  pub elsewhere : (j : ℕ) → j ≢ id → h.asked c j ≡ g.asked c j
+
+-- As far as the open claim goes, nothing was lost and nothing was made; the last attempt that it asked for on this cell ended, and is x now.
 pub record Answered (c : ℕ) (id : ℕ) (x : Attempt) (g h : Glimpse) : Type 0 where
   pub holds : Holds c g h
   pub made : h.made c ≡ g.made c
-  pub here : h.asked c id ≡ g.asked c id ++ x ∷ []
+  pub past : List Attempt
+  pub was : g.asked c id ≡ past ++ opened x.claim x.asker ∷ []
+  pub here : h.asked c id ≡ past ++ x ∷ []
   pub elsewhere : (j : ℕ) → j ≢ id → h.asked c j ≡ g.asked c j
 
 -- As far as the open claim goes, nothing was lost, and it made one cell.
@@ -133,11 +148,29 @@ abbrev pub Fits : Bool → Bool → (Account → Type 0) → (Account → Type 0
 Fits true leads law noted g mine b = noted b × IsAll g mine b
 Fits false leads law noted g mine b = Foresees leads law noted g mine b
 
--- What was seen after a step that left the book b, with the claims that are open then: each cell as before or as in b, and of one's own claims all that they made and asked for.
+-- A cell was seen at a moment between what was seen before and the end of the step: it has grown from the one and grows to the other, and one's own claims on it are those of before.
+pub record Passed (mine : ℕ → ℕ) (old new after : Option Cell) : Type 0 where
+  pub cell : Cell
+  pub is : new ≡ Some cell
+  pub from : (p : Cell) → old ≡ Some p → Stays p cell
+  pub to : (q : Cell) × (after ≡ Some q) × Stays cell q
+  pub forced : (c : ℕ) (asker : Option ℕ) (p : Cell) (past : List Attempt) → 0 < mine c → old ≡ Some p → HasOpen p c asker past → HasOpen cell c asker past
+  pub back : (c : ℕ) (asker : Option ℕ) (past : List Attempt) → 0 < mine c → HasOpen cell c asker past → (p : Cell) × (old ≡ Some p) × HasOpen p c asker past
+
+-- the same of a form
+pub record FormPassed (mine : ℕ → ℕ) (old new after : Option Form) : Type 0 where
+  pub form : Form
+  pub is : new ≡ Some form
+  pub from : (f : Form) → old ≡ Some f → FormStays f form
+  pub to : (e : Form) × (after ≡ Some e) × FormStays form e
+  pub begun : (c number : ℕ) → 0 < mine c → old ≡ Some (begun_form number c) → form ≡ begun_form number c
+  pub back : (c number : ℕ) → 0 < mine c → form ≡ begun_form number c → old ≡ Some (begun_form number c)
+
+-- What was seen after a step that left the book b, with the claims that are open then: each cell as before, as in b, or as at a moment between, and of one's own claims all that they made and asked for.
 pub record Sees (leads : Bool) (mine : ℕ → ℕ) (g : Glimpse) (b : Account) (h : Glimpse) : Type 0 where
   pub limit : h.limit ≡ b.limit
-  pub cells : (id : ℕ) → (h.cells id ≡ g.cells id) ⊎ (h.cells id ≡ cell_at b id)
-  pub forms : (k : ℕ) → (h.forms k ≡ g.forms k) ⊎ (h.forms k ≡ slice_get b.forms k)
+  pub cells : (id : ℕ) → (h.cells id ≡ g.cells id) ⊎ ((h.cells id ≡ cell_at b id) ⊎ Passed mine (g.cells id) (h.cells id) (cell_at b id))
+  pub forms : (k : ℕ) → (h.forms k ≡ g.forms k) ⊎ ((h.forms k ≡ slice_get b.forms k) ⊎ FormPassed mine (g.forms k) (h.forms k) (slice_get b.forms k))
   pub begun : leads ≡ true → h.begun ≡ begun b
   pub made : (c : ℕ) → 0 < mine c → h.made c ≡ made_by c b
   pub asked : (c : ℕ) → 0 < mine c → (id : ℕ) → h.asked c id ≡ asked_at c (cell_at b id)
@@ -156,6 +189,17 @@ SeesCell id b h = h.cells id ≡ cell_at b id
 abbrev pub SeesPlace : Place → Account → Glimpse → Type 0
 SeesPlace (P.Form number k) b h = h.forms k ≡ slice_get b.forms k
 SeesPlace (P.Part id kind term) b h = h.cells id ≡ cell_at b id
+
+-- after one's own refusal for the limit its note was seen
+abbrev pub SeesSpent : MakeRefusal → Glimpse → Type 0
+SeesSpent (M.Spent term) h = h.spent ≡ true
+SeesSpent (M.Memory term) h = Unit {0}
+
+-- after one's own refusal for a give-up its note was seen
+abbrev pub SeesGaveUp : ClaimRefusal → Glimpse → Type 0
+SeesGaveUp (C.Seen look) h = Unit {0}
+SeesGaveUp C.GaveUp h = h.gave_up ≡ true
+SeesGaveUp C.Memory h = Unit {0}
 
 -- it has the work open
 abbrev pub Owns : (ℕ → ℕ) → Glimpse → Duty → Type 0

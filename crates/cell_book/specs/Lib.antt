@@ -1,6 +1,8 @@
 pub mod Account
 pub mod Counts
 pub mod Steps
+pub mod Registers
+pub mod Readers
 pub mod Kept
 pub mod Works
 pub mod Glimpses

@@ -143,6 +143,18 @@ kind_at p = p.kind
 abbrev pub Kinds : Account → ℕ → KindAnswer → Account → Type 0
 Kinds a id answer b = (b ≡ a) × (answer ≡ option_map kind_at (cell_at a id))
 
+abbrev pub FutureAnswer : Type 0
+FutureAnswer = Option ℕ
+
+-- the cell with this number is an empty future
+abbrev pub IsOpenFuture : Account → ℕ → Type 0
+IsOpenFuture a id = (p : Cell) × (cell_at a id ≡ Some p) × (p.kind ≡ Future) × (p.state ≡ S.Empty)
+
+-- The answer is the empty future with the lowest number, and none where no future is empty.
+abbrev pub FindsFuture : Account → FutureAnswer → Account → Type 0
+FindsFuture a None b = (b ≡ a) × ((id : ℕ) → ¬ IsOpenFuture a id)
+FindsFuture a (Some id) b = (b ≡ a) × IsOpenFuture a id × ((j : ℕ) → j < id → ¬ IsOpenFuture a j)
+
 -- The claim on the cell ends, and leaves the cell in a state.
 abbrev pub EndsPart : Account → ℕ → ℕ → ClaimEnd → (Kind → State) → Account → Type 0
 EndsPart a id claim end state b = (p : Cell) × (asker : Option ℕ) × (past : List Attempt) × (cell_at a id ≡ Some p) × HasOpen p claim asker past × (b ≡ with_cell a id (after_claim p claim asker past end (state p.kind)))

@@ -1,5 +1,4 @@
-ghost use Rattle.std.specs.Prelude.{◌≡◌, ◌<◌, ◌^◌, [], ◌∷◌, ◌++◌, List, OnOk, OnErr, count_by};
-ghost use Rattle.cell_book.specs.Counts.{is_error};
+ghost use Rattle.std.specs.Prelude.{◌≡◌, [], ◌∷◌, ◌++◌, List, OnOk, OnErr, length, slice_get, option_copied};
 ghost use Rattle.cell_book.specs.declared.cell.Attempt.{Attempt as Record};
 
 use crate::cell::{Attempt, ClaimEnd};
@@ -59,11 +58,17 @@ impl Attempts {
         }
     }
 
-    /// How many of them ended by an error.
-    pub fn errors(&self) -> usize
-        ensures same { result ≡ count_by (λ (x : Record). is_error x.end) self.now }
-        ensures bound { result < 2 ^ 64 }
+    /// How many there are.
+    pub fn len(&self) -> usize
+        ensures { result ≡ length self.now }
     {
-        self.items.iter().filter(|x| x.end.is_error()).count()
+        self.items.len()
+    }
+
+    /// The claim at a place, and `None` exactly where there is none.
+    pub fn get(&self, at: usize) -> Option<&Attempt>
+        ensures { option_copied result ≡ slice_get self.now at }
+    {
+        self.items.get(at)
     }
 }

@@ -1,10 +1,11 @@
-ghost use Rattle.std.specs.Prelude.{◌≡◌, ◌+◌, ◌≤◌, ◌<◌, ◌⊎◌, ◌∷◌, ◌++◌, [], ℕ, List, Option, Some, length, take, false, slice_get, slice_set, vec_len, ◌≢◌, option_copied, option_map, unwrap_or, IfOk, OnOk, OnErr, IfErr, IfSome, MatchResult};
-ghost use Rattle.seq_values.specs.declared.value.Value.TheVariants.{Nil};
+ghost use Rattle.std.specs.Prelude.{◌≡◌, ◌+◌, ◌≤◌, ◌<◌, ◌⊎◌, ◌∷◌, ◌++◌, [], ℕ, List, Option, Some, None, length, take, true, false, slice_get, slice_set, vec_len, ◌≢◌, option_copied, option_map, unwrap_or, IfOk, OnOk, OnErr, IfErr, IfSome, MatchResult};
 ghost use Rattle.cell_book.specs.declared.cell.Cell.{Cell as Part};
 ghost use Rattle.cell_book.specs.declared.cell.Attempt.{Attempt as Record};
+ghost use Rattle.cell_book.specs.declared.claims.Spot.TheVariants as Spots;
 ghost use Rattle.cell_book.specs.Counts.{totals_of};
-ghost use Rattle.cell_book.specs.Account.{Account, cell_at, is_open, forces, made_by, IsFresh};
-ghost use Rattle.cell_book.specs.Steps.{values_in, shown, term_at, kind_at, asker_of, begun_form, with_cell, after_claim, is_barred, cell_counts, form_counts, claimed, failed_state, fresh_cell, HasCount, Begins, Makes, Opens, Claims, EndsForm, Finishes, Fails, GivesUp, HasOpen, IsOpenIn, IsOpenAsker};
+ghost use Rattle.cell_book.specs.Account.{Account, new_book, cell_at, is_open, forces, made_by, IsFresh};
+ghost use Rattle.cell_book.specs.Steps.{shown, term_at, kind_at, asker_of, begun_form, with_cell, after_claim, is_barred, cell_counts, form_counts, claimed, failed_state, fresh_cell, HasCount, Begins, Makes, FindsFuture, Opens, Claims as Claimed, EndsForm, Finishes, Fails, GivesUp, HasOpen, IsOpenIn, IsOpenAsker};
+ghost use Rattle.cell_book.specs.Kept.{is_open_future, lowered_to, IsPastFutures};
 ghost use Rattle.cell_book.specs.declared.cell.ClaimEnd.TheVariants as End;
 ghost use Rattle.cell_book.specs.declared.answers.Look.TheVariants as Look;
 ghost use Rattle.cell_book.specs.declared.answers.MakeRefusal.TheVariants as Refusal;
@@ -12,11 +13,12 @@ ghost use Rattle.cell_book.specs.declared.answers.MakeRefusal.TheVariants as Ref
 use crate::answers::{ClaimRefusal, Look, MakeRefusal, Totals};
 use crate::attempts::Attempts;
 use crate::cell::{Cell, ClaimEnd, Form, State};
-use crate::totals::counted;
+use crate::claims::{Claims, Spot};
+use crate::settled::{Settled, outcomes_of};
 use crate::work::{Place, Work};
 use seq_base::Thrown;
 use seq_values::{CellId, Kind, Term, Value};
-use seq_vector::{NoMemory, PVec, Share};
+use seq_vector::{NoMemory, Share};
 use std::alloc::Global;
 use std::marker::Model;
 
@@ -24,23 +26,27 @@ use std::marker::Model;
 #[derive(Drop)]
 pub struct Book {
     alloc: Global,
-    limit: u32,
-    cells: Vec<Cell>,
-    forms: Vec<Form>,
-    spent: bool,
-    gave_up: bool,
+    pub(crate) limit: u32,
+    pub(crate) cells: Vec<Cell>,
+    pub(crate) forms: Vec<Form>,
+    pub(crate) spent: bool,
+    pub(crate) gave_up: bool,
     // How many parts the last claim on each cell, and on each form, has made.
     cell_makes: Vec<u32>,
     form_makes: Vec<u32>,
     // The values of the first forms.
-    settled: PVec<Value>,
-    // Above the number of each claim.
-    next: u128,
+    settled: Settled,
+    pub(crate) claims: Claims,
+    // No future before this place is empty.
+    first_future: usize,
+    // The parts that gave a value, and the evaluations of parts that threw.
+    realised: u32,
+    failed: u128,
 }
 
 impl Model for Book {
     ghost use Rattle.cell_book.specs.Account.{Account};
-    ghost use Rattle.cell_book.specs.Kept.{IsKept};
+    ghost use Rattle.cell_book.specs.Kept.{IsWhole};
     ghost use Rattle.std.specs.Coded.{codes};
     ghost use Rattle.seq_values.specs.contracts.value.Value as value;
 
@@ -50,58 +56,14 @@ impl Model for Book {
 
     ghost view = { λ b. record { limit = b.limit; cells = b.cells.items; forms = b.forms.items; spent = b.spent; gave_up = b.gave_up } };
 
-    ghost invariant = { λ b. IsKept (record { limit = b.limit; cells = b.cells.items; forms = b.forms.items; spent = b.spent; gave_up = b.gave_up }) b.cell_makes.items b.form_makes.items b.settled b.next };
+    ghost invariant = { λ b. IsWhole (record { limit = b.limit; cells = b.cells.items; forms = b.forms.items; spent = b.spent; gave_up = b.gave_up }) b.cell_makes.items b.form_makes.items b.settled b.claims b.first_future b.realised b.failed };
 }
 
 /// The place of a cell in the book.
-fn place_of(id: CellId) -> usize
+pub(crate) fn place_of(id: CellId) -> usize
     ensures { result + 1 ≡ id }
 {
     (id.number() - 1) as usize
-}
-
-/// The values of all forms, where those of the first are there already.
-#[tactic(auto, using(crate::proofs::Values::take_next, crate::proofs::Values::take_whole))]
-fn outcomes_of(
-    alloc: Global,
-    settled: &PVec<Value>,
-    forms: &[Form],
-) -> Result<PVec<Value>, NoMemory>
-    requires { settled.now ≡ take (length settled.now) (values_in forms.now) }
-    ensures { IfOk result (λ outcomes. outcomes ≡ values_in forms.now) }
-{
-    let mut outcomes = settled.share()?;
-    for at in settled.len()..forms.len() {
-        outcomes = outcome_added(alloc, &outcomes, &forms[at])?;
-    }
-    Ok(outcomes)
-}
-
-/// The values with that of one more form.
-fn outcome_added(
-    alloc: Global,
-    outcomes: &PVec<Value>,
-    form: &Form,
-) -> Result<PVec<Value>, NoMemory>
-    ensures { IfOk result (λ more. more ≡ outcomes.now ++ unwrap_or form.now.value Nil ∷ []) }
-{
-    if outcomes.len() == 4294967295 {
-        return Err(NoMemory);
-    }
-    let value = form.outcome()?;
-    match outcomes.push(alloc, value) {
-        Ok(more) => Ok(more),
-        Err((_, why)) => Err(why),
-    }
-}
-
-/// Forgets the values that are there already, where that of the form at this place is among them.
-fn forget_from(settled: &mut PVec<Value>, at: usize)
-    ensures { (settled.new ≡ []) ⊎ ((settled.new ≡ settled.old) × (length settled.old ≤ at)) }
-{
-    if at < settled.len() {
-        *settled = PVec::new();
-    }
 }
 
 /// One more item, with a count of its own that begins at 0. The item is handed back where there is no memory.
@@ -121,14 +83,24 @@ fn push_counted<T>(items: &mut Vec<T>, counts: &mut Vec<u32>, item: T) -> Result
     }
 }
 
-/// One more form, with a count of its own that begins at 0. Where there is no memory nothing changes.
-fn begin_counted(forms: &mut Vec<Form>, counts: &mut Vec<u32>, form: Form) -> Result<(), NoMemory>
-    ensures ok { OnOk result ((forms.new.items ≡ forms.old.items ++ form ∷ []) × (counts.new.items ≡ counts.old.items ++ 0 ∷ [])) }
-    ensures err { OnErr result ((forms.new.items ≡ forms.old.items) × (counts.new.items ≡ counts.old.items)) }
+/// One more form with an open claim, and a count of its own that begins at 0. Where there is no memory nothing changes.
+fn begin_counted(
+    forms: &mut Vec<Form>,
+    counts: &mut Vec<u32>,
+    claims: &mut Claims,
+    number: u32,
+) -> Result<(), NoMemory>
+    ensures ok { OnOk result ((forms.new.items ≡ forms.old.items ++ begun_form number (length claims.old) ∷ []) × (counts.new.items ≡ counts.old.items ++ 0 ∷ []) × (claims.new ≡ claims.old ++ record { spot = Spots.Form (length forms.old.items); ended = false } ∷ [])) }
+    ensures err { OnErr result ((forms.new.items ≡ forms.old.items) × (counts.new.items ≡ counts.old.items) × (claims.new ≡ claims.old)) }
 {
-    match push_counted(forms, counts, form) {
+    let begun = Form::begun(number, claims.len() as u128);
+    claims.add(Spot::Form { at: forms.len() })?;
+    match push_counted(forms, counts, begun) {
         Ok(()) => Ok(()),
-        Err(_) => Err(NoMemory),
+        Err(_) => {
+            claims.take_back();
+            Err(NoMemory)
+        }
     }
 }
 
@@ -193,25 +165,79 @@ fn count_make(place: &Place, cell_makes: &mut Vec<u32>, form_makes: &mut Vec<u32
     }
 }
 
-/// Opens a claim on a cell. Where there is no memory nothing changes.
+/// Opens a claim on the cell at a place, whose number is this. Where there is no memory nothing changes.
 fn open_cell(
     cells: &mut Vec<Cell>,
+    claims: &mut Claims,
     at: usize,
+    id: CellId,
     alloc: Global,
-    claim: u128,
     asker: Option<u128>,
 ) -> Result<(), NoMemory>
     requires { at < vec_len cells.old }
-    ensures ok { OnOk result ((p : Part) → slice_get cells.old.items at ≡ Some p → cells.new.items ≡ slice_set cells.old.items at (claimed p claim asker)) }
-    ensures err { OnErr result (cells.new.items ≡ cells.old.items) }
+    ensures ok { OnOk result ((p : Part) → slice_get cells.old.items at ≡ Some p → (cells.new.items ≡ slice_set cells.old.items at (claimed p (length claims.old) asker)) × (claims.new ≡ claims.old ++ record { spot = Spots.Part id (length p.attempts); ended = false } ∷ [])) }
+    ensures err { OnErr result ((cells.new.items ≡ cells.old.items) × (claims.new ≡ claims.old)) }
 {
-    cells[at].open(alloc, claim, asker)
+    let claim = claims.len() as u128;
+    let place = cells[at].attempts.len();
+    claims.add(Spot::Part {
+        cell: id,
+        at: place,
+    })?;
+    match cells[at].open(alloc, claim, asker) {
+        Ok(()) => Ok(()),
+        Err(why) => {
+            claims.take_back();
+            Err(why)
+        }
+    }
+}
+
+/// The place below which no future is empty, after the cell at a place came to this state.
+fn lowered(first: usize, at: usize, kind: Kind, state: &State) -> usize
+    ensures { result ≡ lowered_to first at kind state.now }
+{
+    match (kind, state) {
+        (Kind::Future, State::Empty) => first.min(at),
+        _ => first,
+    }
+}
+
+/// The place of the first empty future from here on, or how many cells there are.
+#[tactic(auto, using(crate::proofs::Counting::past_next, crate::proofs::Counting::future_found, crate::proofs::Counting::future_past))]
+fn future_from(cells: &Vec<Cell>, from: usize) -> usize
+    requires { IsPastFutures cells.now.items from }
+    ensures past { IsPastFutures cells.now.items result }
+    ensures found { (p : Part) → slice_get cells.now.items result ≡ Some p → is_open_future p ≡ true }
+{
+    let mut at = from;
+    while at < cells.len() {
+        if cells[at].is_open_future() {
+            return at;
+        }
+        at += 1;
+    }
+    at
+}
+
+/// The number of the cell at a place, if there is one.
+fn id_at(cells: &Vec<Cell>, at: usize) -> Option<CellId>
+    requires { length cells.now.items ≤ 4294967295 }
+    ensures there { at < length cells.now.items → result ≡ Some (at + 1) }
+    ensures past { length cells.now.items ≤ at → result ≡ None }
+{
+    if at < cells.len() {
+        Some(next_id(at))
+    } else {
+        None
+    }
 }
 
 impl Book {
     /// A book with no cell and no claim. `cells` is how many cells it may have.
+    #[tactic(auto, using(crate::proofs::Wholes::new_whole))]
     pub fn new(alloc: Global, cells: u32) -> Result<Book, NoMemory>
-        ensures { IfOk result (λ book. book ≡ record { limit = cells; cells = []; forms = []; spent = false; gave_up = false }) }
+        ensures { IfOk result (λ book. book ≡ new_book cells) }
     {
         Ok(Book {
             alloc,
@@ -222,18 +248,25 @@ impl Book {
             gave_up: false,
             cell_makes: Vec::new(alloc),
             form_makes: Vec::new(alloc),
-            settled: PVec::new(),
-            next: 0,
+            settled: Settled::new(),
+            claims: Claims::new(alloc),
+            first_future: 0,
+            realised: 0,
+            failed: 0,
         })
     }
 
-    /// What is counted of its parts. It takes no memory, and looks at each part.
+    /// What is counted of its parts. It takes no memory, and reads counts that the book keeps.
     pub fn totals(&self) -> Totals
         ensures { result ≡ totals_of self.now.cells }
     {
         // There are no more of them than the limit, which is a u32.
         let _limit = self.limit;
-        counted(self.cells.as_slice())
+        Totals {
+            made: self.cells.len() as u32,
+            realised: self.realised,
+            failed: self.failed,
+        }
     }
 
     /// The term of a part, and `None` exactly for a number not made.
@@ -262,15 +295,15 @@ impl Book {
     {
         let outcomes = outcomes_of(self.alloc, &self.settled, &self.forms)?;
         let kept = outcomes.share()?;
-        let claim = self.next;
+        let claim = self.claims.len() as u128;
         let at = self.forms.len();
-        if claim == u128::MAX {
-            return Err(NoMemory);
-        }
-        let begun = Form::begun(form, claim);
-        begin_counted(&mut self.forms, &mut self.form_makes, begun)?;
-        self.settled = kept;
-        self.next = claim + 1;
+        begin_counted(
+            &mut self.forms,
+            &mut self.form_makes,
+            &mut self.claims,
+            form,
+        )?;
+        self.settled = Settled::of(kept);
         Ok(Work {
             place: Place::Form { number: form, at },
             claim,
@@ -320,7 +353,7 @@ impl Book {
     /// Opens a claim on an empty part.
     pub fn claim(&mut self, id: CellId, by: Option<&Work>) -> Result<Work, ClaimRefusal>
         requires asker { IsOpenAsker self.old (option_copied by) }
-        ensures { Claims self.old id (asker_of (option_copied by.entry)) result self.new }
+        ensures { Claimed self.old id (asker_of (option_copied by.entry)) result self.new }
     {
         let asker = match by {
             None => None,
@@ -341,6 +374,16 @@ impl Book {
         }
     }
 
+    /// The empty future with the lowest number, and `None` exactly where no future is empty.
+    #[tactic(auto, using(crate::proofs::Wholes::found_whole))]
+    pub fn open_future(&mut self) -> Option<CellId>
+        ensures { FindsFuture self.old result self.new }
+    {
+        let at = future_from(&self.cells, self.first_future);
+        self.first_future = at;
+        id_at(&self.cells, at)
+    }
+
     /// Opens a claim on a part that is empty.
     fn open(&mut self, id: CellId, asker: Option<u128>) -> Result<Work, NoMemory>
         requires empty { shown (cell_at self.old id) ≡ Look.Empty }
@@ -351,13 +394,9 @@ impl Book {
         let kind = self.cells[at].kind;
         let term = self.cells[at].term.share()?;
         let outcomes = self.cells[at].outcomes.share()?;
-        let claim = self.next;
-        if claim == u128::MAX {
-            return Err(NoMemory);
-        }
-        open_cell(&mut self.cells, at, self.alloc, claim, asker)?;
+        let claim = self.claims.len() as u128;
+        open_cell(&mut self.cells, &mut self.claims, at, id, self.alloc, asker)?;
         self.cell_makes[at] = 0;
-        self.next = claim + 1;
         Ok(Work {
             place: Place::Part {
                 cell: id,
@@ -370,31 +409,41 @@ impl Book {
     }
 
     /// Ends the open claim on a form.
-    fn end_form(&mut self, at: usize, end: ClaimEnd, value: Option<Value>)
-        requires begun { (number : ℕ) × (claim : ℕ) × (slice_get self.old.forms at ≡ Some (begun_form number claim)) }
+    fn end_form(&mut self, at: usize, claim: u128, end: ClaimEnd, value: Option<Value>)
+        requires begun { (number : ℕ) × (slice_get self.old.forms at ≡ Some (begun_form number claim)) }
         requires ended { is_open end ≡ false }
-        ensures { (number claim : ℕ) → slice_get self.old.forms at ≡ Some (begun_form number claim) → EndsForm self.old at number claim end value self.new }
+        ensures { (number : ℕ) → slice_get self.old.forms at ≡ Some (begun_form number claim) → EndsForm self.old at number claim end value self.new }
     {
-        forget_from(&mut self.settled, at);
+        self.settled.forget_from(at);
         self.forms[at].end(end, value);
+        self.claims.close(claim);
     }
 
     /// Ends the open claim on a part, which leaves it in this state.
-    fn end_part(&mut self, id: CellId, end: ClaimEnd, state: State)
-        requires forced { (p : Part) × (claim : ℕ) × (asker : Option ℕ) × (past : List Record) × (cell_at self.old id ≡ Some p) × HasOpen p claim asker past }
+    fn end_part(&mut self, id: CellId, claim: u128, end: ClaimEnd, state: State)
+        requires forced { (p : Part) × (asker : Option ℕ) × (past : List Record) × (cell_at self.old id ≡ Some p) × HasOpen p claim asker past }
         requires idle { (c : ℕ) → forces c state ≡ false }
-        ensures { (p : Part) (claim : ℕ) (asker : Option ℕ) (past : List Record) → cell_at self.old id ≡ Some p → HasOpen p claim asker past → self.new ≡ with_cell self.old id (after_claim p claim asker past end state) }
+        requires ended { is_open end ≡ false }
+        ensures { (p : Part) (asker : Option ℕ) (past : List Record) → cell_at self.old id ≡ Some p → HasOpen p claim asker past → self.new ≡ with_cell self.old id (after_claim p claim asker past end state) }
     {
-        self.cells[place_of(id)].end(end, state);
+        // The limit bounds the parts, and the number of claims the errors.
+        let _limit = self.limit;
+        let _claims = self.claims.len();
+        let at = place_of(id);
+        self.realised += state.realised();
+        self.failed += end.failed();
+        self.first_future = lowered(self.first_future, at, self.cells[at].kind, &state);
+        self.cells[at].end(end, state);
+        self.claims.close(claim);
     }
 
     /// Ends the open claim on a part by an error.
-    fn fail_part(&mut self, id: CellId, why: Thrown)
-        requires { (p : Part) × (claim : ℕ) × (asker : Option ℕ) × (past : List Record) × (cell_at self.old id ≡ Some p) × HasOpen p claim asker past }
-        ensures { (p : Part) (claim : ℕ) (asker : Option ℕ) (past : List Record) → cell_at self.old id ≡ Some p → HasOpen p claim asker past → self.new ≡ with_cell self.old id (after_claim p claim asker past (End.Error why) (failed_state why p.kind)) }
+    fn fail_part(&mut self, id: CellId, claim: u128, why: Thrown)
+        requires { (p : Part) × (asker : Option ℕ) × (past : List Record) × (cell_at self.old id ≡ Some p) × HasOpen p claim asker past }
+        ensures { (p : Part) (asker : Option ℕ) (past : List Record) → cell_at self.old id ≡ Some p → HasOpen p claim asker past → self.new ≡ with_cell self.old id (after_claim p claim asker past (End.Error why) (failed_state why p.kind)) }
     {
         let state = State::after_error(why, self.cells[place_of(id)].kind);
-        self.end_part(id, ClaimEnd::Error(why), state);
+        self.end_part(id, claim, ClaimEnd::Error(why), state);
     }
 
     /// The part is done, or the form has ended, with this value.
@@ -404,12 +453,17 @@ impl Book {
     {
         let Work {
             place,
-            claim: _claim,
+            claim,
             outcomes: _outcomes,
         } = work;
         match place {
-            Place::Form { at, .. } => self.end_form(at, ClaimEnd::Value, Some(value)),
-            Place::Part { cell, .. } => self.end_part(cell, ClaimEnd::Value, State::Done(value)),
+            Place::Form { at, .. } => self.end_form(at, claim, ClaimEnd::Value, Some(value)),
+            Place::Part { cell, .. } => self.end_part(
+                cell,
+                claim,
+                ClaimEnd::Value,
+                State::Done(value),
+            ),
         }
     }
 
@@ -420,12 +474,12 @@ impl Book {
     {
         let Work {
             place,
-            claim: _claim,
+            claim,
             outcomes: _outcomes,
         } = work;
         match place {
-            Place::Form { at, .. } => self.end_form(at, ClaimEnd::Error(why), None),
-            Place::Part { cell, .. } => self.fail_part(cell, why),
+            Place::Form { at, .. } => self.end_form(at, claim, ClaimEnd::Error(why), None),
+            Place::Part { cell, .. } => self.fail_part(cell, claim, why),
         }
     }
 
@@ -436,12 +490,12 @@ impl Book {
     {
         let Work {
             place,
-            claim: _claim,
+            claim,
             outcomes: _outcomes,
         } = work;
         match place {
-            Place::Form { at, .. } => self.end_form(at, ClaimEnd::GivenUp, None),
-            Place::Part { cell, .. } => self.end_part(cell, ClaimEnd::GivenUp, State::Empty),
+            Place::Form { at, .. } => self.end_form(at, claim, ClaimEnd::GivenUp, None),
+            Place::Part { cell, .. } => self.end_part(cell, claim, ClaimEnd::GivenUp, State::Empty),
         }
         self.gave_up = true;
     }

@@ -2,6 +2,7 @@ ghost use Rattle.std.specs.Prelude.{◌≡◌, ◌∷◌, ◌++◌, [], List, �
 ghost use Rattle.seq_values.specs.declared.value.Value.TheVariants.{Nil};
 ghost use Rattle.cell_book.specs.declared.cell.Attempt.{Attempt as Record};
 ghost use Rattle.cell_book.specs.Account.{opened};
+ghost use Rattle.cell_book.specs.Kept.{is_open_future};
 ghost use Rattle.cell_book.specs.Steps.{begun_form, claimed, after_claim, failed_state, shown_state, HasOpen};
 
 use crate::answers::Look;
@@ -68,7 +69,7 @@ pub struct Form {
 
 impl State {
     /// What a look at a part in this state shows. The value of a part is shared.
-    pub(crate) fn look(&self) -> Result<Look, NoMemory>
+    pub fn look(&self) -> Result<Look, NoMemory>
         ensures { IfOk result (λ l. l ≡ shown_state self.now) }
     {
         Ok(match self {
@@ -80,7 +81,7 @@ impl State {
     }
 
     /// The state that an error leaves a part in: a lazy part may be asked again, a future has failed.
-    pub(crate) fn after_error(why: Thrown, kind: Kind) -> State
+    pub fn after_error(why: Thrown, kind: Kind) -> State
         ensures { result ≡ failed_state why kind }
     {
         match kind {
@@ -92,7 +93,7 @@ impl State {
 
 impl Attempt {
     /// The record of a claim as it is opened.
-    pub(crate) fn opened(claim: u128, asker: Option<u128>) -> Attempt
+    pub fn opened(claim: u128, asker: Option<u128>) -> Attempt
         ensures { result ≡ opened claim asker }
     {
         Attempt {
@@ -104,13 +105,18 @@ impl Attempt {
 }
 
 impl Cell {
+    /// It is a future that nobody evaluates yet.
+    pub(crate) fn is_open_future(&self) -> bool
+        ensures { result ≡ is_open_future self.now }
+    {
+        match (self.kind, &self.state) {
+            (Kind::Future, State::Empty) => true,
+            _ => false,
+        }
+    }
+
     /// Opens a claim. Where there is no memory nothing changes.
-    pub(crate) fn open(
-        &mut self,
-        alloc: Global,
-        claim: u128,
-        asker: Option<u128>,
-    ) -> Result<(), NoMemory>
+    pub fn open(&mut self, alloc: Global, claim: u128, asker: Option<u128>) -> Result<(), NoMemory>
         ensures ok { OnOk result (self.new ≡ claimed self.old claim asker) }
         ensures err { OnErr result (self.new ≡ self.old) }
     {
@@ -120,7 +126,7 @@ impl Cell {
     }
 
     /// Ends the open claim, which leaves the part in this state.
-    pub(crate) fn end(&mut self, end: ClaimEnd, state: State)
+    pub fn end(&mut self, end: ClaimEnd, state: State)
         ensures { (claim : ℕ) (asker : Option ℕ) (past : List Record) → HasOpen self.old claim asker past → self.new ≡ after_claim self.old claim asker past end state }
     {
         self.attempts.end_last(end);
@@ -130,7 +136,7 @@ impl Cell {
 
 impl Form {
     /// A form with its claim open.
-    pub(crate) fn begun(number: u32, claim: u128) -> Form
+    pub fn begun(number: u32, claim: u128) -> Form
         ensures { result ≡ begun_form number claim }
     {
         Form {
@@ -141,7 +147,7 @@ impl Form {
     }
 
     /// The value that it gave, shared, or nil.
-    pub(crate) fn outcome(&self) -> Result<Value, NoMemory>
+    pub fn outcome(&self) -> Result<Value, NoMemory>
         ensures { IfOk result (λ v. v ≡ unwrap_or self.now.value Nil) }
     {
         match &self.value {
@@ -151,7 +157,7 @@ impl Form {
     }
 
     /// Ends the claim, with a value or none.
-    pub(crate) fn end(&mut self, end: ClaimEnd, value: Option<Value>)
+    pub fn end(&mut self, end: ClaimEnd, value: Option<Value>)
         ensures { self.new ≡ record self.old { attempt = record self.old.attempt { end = end }; value = value } }
     {
         self.attempt.end = end;

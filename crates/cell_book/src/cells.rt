@@ -1,8 +1,8 @@
 //! The calls on a book, whoever else has it.
-ghost use Rattle.std.specs.Prelude.{◌≡◌, ◌<◌, ℕ, true, Contains, IfOk, option_copied};
+ghost use Rattle.std.specs.Prelude.{◌≡◌, ◌<◌, ℕ, true, Contains, IfOk, IfErr, IfSome, option_copied};
 ghost use Rattle.cell_book.specs.Account.{Account};
-ghost use Rattle.cell_book.specs.Steps.{asker_of, Begins, BeginAnswer, Makes, MakeAnswer, Looks, Kinds, Claims, ClaimAnswer, Finishes, Fails, GivesUp};
-ghost use Rattle.cell_book.specs.Glimpses.{Fits, Saw, SeesCell, SeesPlace, IsOpen, Owns, MayAsk, after_open, after_end};
+ghost use Rattle.cell_book.specs.Steps.{asker_of, Begins, BeginAnswer, Makes, MakeAnswer, Looks, Kinds, FindsFuture, Claims, ClaimAnswer, Finishes, Fails, GivesUp};
+ghost use Rattle.cell_book.specs.Glimpses.{Fits, Saw, SeesCell, SeesPlace, SeesSpent, SeesGaveUp, IsOpen, Owns, MayAsk, after_open, after_end};
 
 use crate::answers::{ClaimRefusal, Look, MakeRefusal};
 use crate::work::Work;
@@ -65,6 +65,7 @@ pub trait Cells {
         requires own { Owns (held self.old) (seen self.old) by.now }
         requires keeps { (a b : Account) (answer : MakeAnswer) → Fits (alone self.old) (leads self.old) (law self.old) (noted self.old) (seen self.old) (held self.old) a → Makes a by.now term kind answer b → law self.old b }
         ensures step { (a b : Account) × Fits (alone self.old) (leads self.old) (law self.old) (noted self.old) (seen self.old) (held self.old) a × Makes a by.now term kind result b × Saw (alone self.old) (leads self.old) (noted self.new) (held self.new) (seen self.old) b (seen self.new) × IfOk result (λ id. SeesCell id b (seen self.new)) }
+        ensures spent { IfErr result (λ r. SeesSpent r (seen self.new)) }
         ensures held { (c : ℕ) → held self.new c ≡ held self.old c }
         ensures same { same self.old self.new };
 
@@ -84,12 +85,21 @@ pub trait Cells {
         ensures held { (c : ℕ) → held self.new c ≡ held self.old c }
         ensures same { same self.old self.new };
 
+    /// The empty future with the lowest number, and `None` exactly where no future is empty at this step. It takes no memory.
+    fn open_future(&mut self) -> Option<CellId>
+        requires ready { ready self.old }
+        ensures step { (a b : Account) × Fits (alone self.old) (leads self.old) (law self.old) (noted self.old) (seen self.old) (held self.old) a × FindsFuture a result b × Saw (alone self.old) (leads self.old) (noted self.new) (held self.new) (seen self.old) b (seen self.new) × IfSome result (λ id. SeesCell id b (seen self.new)) }
+        ensures noted { (a : Account) → noted self.old a → noted self.new a }
+        ensures held { (c : ℕ) → held self.new c ≡ held self.old c }
+        ensures same { same self.old self.new };
+
     /// Opens a claim on an empty part, asked by a work. A future may be claimed without an asker.
     fn claim(&mut self, id: CellId, by: Option<&Work>) -> Result<Work, ClaimRefusal>
         requires ready { ready self.old }
         requires own { MayAsk (held self.old) (seen self.old) id (option_copied by) }
         requires keeps { (a b : Account) (answer : ClaimAnswer) → Fits (alone self.old) (leads self.old) (law self.old) (noted self.old) (seen self.old) (held self.old) a → Claims a id (asker_of (option_copied by)) answer b → law self.old b }
         ensures step { (a b : Account) × Fits (alone self.old) (leads self.old) (law self.old) (noted self.old) (seen self.old) (held self.old) a × Claims a id (asker_of (option_copied by.entry)) result b × Saw (alone self.old) (leads self.old) (noted self.new) (held self.new) (seen self.old) b (seen self.new) × SeesCell id b (seen self.new) }
+        ensures gave_up { IfErr result (λ r. SeesGaveUp r (seen self.new)) }
         ensures open { IfOk result (λ w. IsOpen (seen self.new) w) }
         ensures fresh { IfOk result (λ w. held self.old w.claim ≡ 0) }
         ensures held { (c : ℕ) → held self.new c ≡ after_open (held self.old) result c }
@@ -119,6 +129,7 @@ pub trait Cells {
         requires own { Owns (held self.old) (seen self.old) work }
         requires keeps { (a b : Account) → Fits (alone self.old) (leads self.old) (law self.old) (noted self.old) (seen self.old) (held self.old) a → GivesUp a work b → law self.old b }
         ensures step { (a b : Account) × Fits (alone self.old) (leads self.old) (law self.old) (noted self.old) (seen self.old) (held self.old) a × GivesUp a work b × Saw (alone self.old) (leads self.old) (noted self.new) (held self.new) (seen self.old) b (seen self.new) × SeesPlace work.place b (seen self.new) }
+        ensures gave_up { (seen self.new).gave_up ≡ true }
         ensures held { (c : ℕ) → held self.new c ≡ after_end (held self.old) work c }
         ensures same { same self.old self.new };
 

@@ -6,7 +6,10 @@ mod attempts;
 mod book;
 mod cell;
 mod cells;
+mod claims;
 mod plain;
+mod readers;
+mod settled;
 mod totals;
 mod work;
 

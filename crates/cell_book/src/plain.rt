@@ -84,6 +84,10 @@ impl Cells for PlainCells<'_> {
         self.book.kind(id)
     }
 
+    fn open_future(&mut self) -> Option<CellId> {
+        self.book.open_future()
+    }
+
     fn claim(&mut self, id: CellId, by: Option<&Work>) -> Result<Work, ClaimRefusal> {
         self.book.claim(id, by)
     }

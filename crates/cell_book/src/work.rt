@@ -42,6 +42,36 @@ impl Model for Work {
 
 /// None of these takes memory.
 impl Work {
+    /// The work of a claim that was opened on this place. Only what keeps cells makes one; no call rests on that.
+    pub fn of(place: Place, claim: u128, outcomes: PVec<Value>) -> Work
+        ensures { result ≡ record { place = place; claim = claim; outcomes = outcomes } }
+    {
+        Work {
+            place,
+            claim,
+            outcomes,
+        }
+    }
+
+    /// Its place, its claim, and the values of the forms begun before.
+    pub fn into_parts(self) -> (Place, u128, PVec<Value>)
+        ensures { (result.0 ≡ self.place) × (result.1 ≡ self.claim) × (result.2 ≡ self.outcomes) }
+    {
+        let Work {
+            place,
+            claim,
+            outcomes,
+        } = self;
+        (place, claim, outcomes)
+    }
+
+    /// What it is on.
+    pub fn place(&self) -> &Place
+        ensures { result.now ≡ self.now.place }
+    {
+        &self.place
+    }
+
     /// The part that it is on, and `None` exactly for a form.
     pub fn cell(&self) -> Option<CellId>
         ensures { result ≡ cell_of self.now.place }

@@ -1,6 +1,6 @@
 -- Each step on a book keeps the law of sevens.
-use Rattle.std.proofs.Common.{◌≡◌, ◌≢◌, ℕ, zero, suc, ◌++◌, ◌∷◌, [], List, length, Result, Ok, Err, Some, None, Option, sym, ap, subst, ◌∙◌, ◌⊎◌, inl, inr, pos}
-use Rattle.std.specs.Prelude.{slice_get, IfOk}
+use Rattle.std.proofs.Common.{◌≡◌, ◌≢◌, ℕ, zero, suc, ◌++◌, ◌∷◌, [], List, length, Result, Ok, Err, Some, None, Option, Bool, refl, sym, ap, subst, ◌∙◌, ◌⊎◌, inl, inr, pos}
+use Rattle.std.specs.Prelude.{slice_get, IfOk, IfSome}
 use Rattle.std.proofs.lemmas.Option.{none-some}
 use Rattle.seq_values.specs.declared.value.Value.{Value}
 use Rattle.seq_values.specs.declared.value.Value.TheVariants.{Int}
@@ -15,11 +15,14 @@ use Rattle.cell_book.specs.declared.cell.Cell.{Cell}
 use Rattle.cell_book.specs.declared.work.Place.{Place}
 use Rattle.cell_book.specs.declared.work.Place.TheVariants as P
 use Rattle.cell_book.specs.Account.{Account, Duty, cell_at}
-use Rattle.cell_book.specs.Steps.{with_cell, claimed, after_claim, new_cell, shown, LookAnswer, Looks, failed_state, BeginAnswer, Begins, Makes, MakeAnswer, Claims, ClaimAnswer, Ends, Finishes, Fails, GivesUp}
-use Rattle.cell_book.specs.Glimpses.{Glimpse, SeesCell, Owns}
+use Rattle.cell_book.specs.Steps.{with_cell, claimed, after_claim, new_cell, shown, shown_state, LookAnswer, Looks, FutureAnswer, FindsFuture, failed_state, BeginAnswer, Begins, Makes, MakeAnswer, Claims, ClaimAnswer, Ends, Finishes, Fails, GivesUp}
+use Rattle.cell_book.specs.Glimpses.{Glimpse, Fits, SeesCell, SeesPlace, Owns}
+use Rattle.cell_book.proofs.Moves.{makes_here, fails_shown}
+use Rattle.cell_book.proofs.Onwards.{fits_reaches}
 use Rattle.cell_book.proofs.Laws.{new_claim}
+use Rattle.cell_book.proofs.Stepping.{finds_same}
 use Rattle.cell_book.proofs.Lists.{get_set, get_snoc}
-use Rattle.cell_client.specs.Sevens.{IsSevens}
+use Rattle.cell_client.specs.Sevens.{IsSevens, IsOn, IsNew, IsWaiting}
 
 empty_done : (v : Value) → S.Empty ≡ S.Done v → ⊥
 empty_done v e = cc
@@ -105,3 +108,23 @@ looks_seen a b id (Err r) g h e = tt
 pub new_claims : {E : Type 0} (mine : ℕ → ℕ) (g : Glimpse) (answer : Result Duty E) → IfOk answer (λ w. mine w.claim ≡ 0) → IfOk answer (λ w. (x : Duty) → Owns mine g x → x.claim ≢ w.claim)
 new_claims mine g (Ok w) z = λ x o. new_claim mine w x.claim z o.0
 new_claims mine g (Err r) z = tt
+
+-- what was made
+pub new_seen : (a b : Account) (by : Duty) (t : Term) (k : Kind) (answer : MakeAnswer) (g : Glimpse) → Makes a by t k answer b → IfOk answer (λ (id : ℕ). SeesCell id b g) → IfOk answer (λ (id : ℕ). IsNew by k (g.cells id))
+new_seen a b by t k (Ok id) g h e = (new_cell a by t k, e ∙ makes_here a b by t k id h, refl, refl, refl)
+new_seen a b by t k (Err r) g h e = tt
+
+-- what an error left
+pub thrown_seen : (alone leads : Bool) (law noted : Account → Type 0) (g h : Glimpse) (mine : ℕ → ℕ) (a b : Account) (w : Duty) (why : Thrown) (id : ℕ) (p : Cell) → Fits alone leads law noted g mine a → Fails a w why b → SeesPlace w.place b h → IsOn id w.place → g.cells id ≡ Some p → shown (h.cells id) ≡ shown_state (failed_state why p.kind)
+thrown_seen alone leads law noted g h mine a b w why id p fits step sees (kind, term, place) at =
+    let q = (fits_reaches alone leads law noted g mine a fits).cells id p at in
+    let seen : h.cells id ≡ cell_at b id = subst (λ (x : Place). SeesPlace x b h) place sees in
+    ap shown seen ∙ (fails_shown a b w why id kind term q.0 place step q.1 ∙ ap (λ (k : Kind). shown_state (failed_state why k)) q.2.kind)
+
+-- the lowest empty future
+pub sevens_finds : (a b : Account) (answer : FutureAnswer) → IsSevens a → FindsFuture a answer b → IsSevens b
+sevens_finds a b answer s h = subst IsSevens (sym (finds_same a b answer h)) s
+
+pub found_seen : (a b : Account) (answer : FutureAnswer) (g : Glimpse) → FindsFuture a answer b → IfSome answer (λ (id : ℕ). SeesCell id b g) → IfSome answer (λ (id : ℕ). IsWaiting (g.cells id))
+found_seen a b None g h e = tt
+found_seen a b (Some id) g (same, (p, at, future, empty), low) e = (p, e ∙ (ap (λ (x : Account). cell_at x id) same ∙ at), future, empty)

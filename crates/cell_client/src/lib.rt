@@ -1,16 +1,15 @@
 //! A client of any cells, under a small law of its own: each value in the book is 7.
 #![tactic(auto)]
 
-ghost use Rattle.std.specs.Prelude.{◌≡◌, ◌≢◌, ℕ, true, Contains, IfOk, pos};
+ghost use Rattle.std.specs.Prelude.{◌≡◌, ◌≢◌, ℕ, true, Contains, IfOk, IfSome, pos};
 ghost use Rattle.seq_values.specs.declared.value.Value.TheVariants.{Int};
 ghost use Rattle.cell_book.specs.declared.answers.Look.TheVariants.{Done};
-ghost use Rattle.cell_book.specs.Steps.{shown};
+ghost use Rattle.cell_book.specs.Steps.{shown, shown_state, failed_state};
+ghost use Rattle.cell_book.specs.declared.cell.Cell.{Cell};
+ghost use Rattle.seq_base.specs.declared.thrown.Thrown.TheVariants.{Divide};
 ghost use Rattle.cell_book.specs.Account.{Duty};
 ghost use Rattle.cell_book.specs.Glimpses.{Owns, LawIs};
-ghost use Rattle.cell_client.specs.Sevens.{IsSevens, IsOn};
-
-#[cfg(test)]
-mod tests;
+ghost use Rattle.cell_client.specs.Sevens.{IsSevens, IsOn, IsNew, IsWaiting};
 
 use cell_book::{CellLaw, Cells, ClaimRefusal, Look, MakeRefusal, Work};
 use seq_base::Thrown;
@@ -46,6 +45,7 @@ pub fn add<C: Cells>(cells: &mut C, by: &Work, kind: Kind) -> Result<CellId, Mak
     requires own { Owns (C.held cells.old) (C.seen cells.old) by.now }
     requires law { LawIs (C.alone cells.old) (C.law cells.old) (C.noted cells.old) IsSevens }
     ensures own { Owns (C.held cells.new) (C.seen cells.new) by.now }
+    ensures made { IfOk result (λ id. IsNew by.now kind ((C.seen cells.new).cells id)) }
     ensures law { LawIs (C.alone cells.new) (C.law cells.new) (C.noted cells.new) IsSevens }
     ensures same { C.same cells.old cells.new }
 {
@@ -67,6 +67,19 @@ pub fn see<C: Cells>(cells: &mut C, by: &Work, id: CellId) -> Result<Look, NoMem
     ensures same { C.same cells.old cells.new }
 {
     cells.look(id)
+}
+
+/// The empty future with the lowest number.
+pub fn next<C: Cells>(cells: &mut C, by: &Work) -> Option<CellId>
+    requires ready { C.ready cells.old }
+    requires own { Owns (C.held cells.old) (C.seen cells.old) by.now }
+    requires law { LawIs (C.alone cells.old) (C.law cells.old) (C.noted cells.old) IsSevens }
+    ensures own { Owns (C.held cells.new) (C.seen cells.new) by.now }
+    ensures found { IfSome result (λ id. IsWaiting ((C.seen cells.new).cells id)) }
+    ensures law { LawIs (C.alone cells.new) (C.law cells.new) (C.noted cells.new) IsSevens }
+    ensures same { C.same cells.old cells.new }
+{
+    cells.open_future()
 }
 
 /// Claims a part for the work.
@@ -108,6 +121,7 @@ pub fn throw<C: Cells>(cells: &mut C, by: &Work, work: Work)
     requires apart { by.now.claim ≢ work.claim }
     requires law { LawIs (C.alone cells.old) (C.law cells.old) (C.noted cells.old) IsSevens }
     ensures own { Owns (C.held cells.new) (C.seen cells.new) by.now }
+    ensures thrown { (id : ℕ) (p : Cell) → IsOn id work.place → (C.seen cells.old).cells id ≡ Some p → shown ((C.seen cells.new).cells id) ≡ shown_state (failed_state Divide p.kind) }
     ensures law { LawIs (C.alone cells.new) (C.law cells.new) (C.noted cells.new) IsSevens }
     ensures same { C.same cells.old cells.new }
 {
@@ -142,6 +156,39 @@ pub fn settle<C: Cells>(cells: &mut C, by: &Work, id: CellId) -> Result<(), Clai
     let work = ask(cells, by, id)?;
     finish(cells, by, work);
     Ok(())
+}
+
+/// Claims a part for the work, ends the claim by an error, and tells how the part looks then; `None` where the claim or the look was refused.
+pub fn fails<C: Cells>(cells: &mut C, by: &Work, id: CellId) -> Option<Look>
+    requires ready { C.ready cells.old }
+    requires own { Owns (C.held cells.old) (C.seen cells.old) by.now }
+    requires law { LawIs (C.alone cells.old) (C.law cells.old) (C.noted cells.old) IsSevens }
+    ensures own { Owns (C.held cells.new) (C.seen cells.new) by.now }
+    ensures law { LawIs (C.alone cells.new) (C.law cells.new) (C.noted cells.new) IsSevens }
+    ensures same { C.same cells.old cells.new }
+{
+    match ask(cells, by, id) {
+        Err(_) => None,
+        Ok(work) => {
+            throw(cells, by, work);
+            look_of(cells, by, id)
+        }
+    }
+}
+
+/// How a part looks, and `None` where there is no memory.
+fn look_of<C: Cells>(cells: &mut C, by: &Work, id: CellId) -> Option<Look>
+    requires ready { C.ready cells.old }
+    requires own { Owns (C.held cells.old) (C.seen cells.old) by.now }
+    requires law { LawIs (C.alone cells.old) (C.law cells.old) (C.noted cells.old) IsSevens }
+    ensures own { Owns (C.held cells.new) (C.seen cells.new) by.now }
+    ensures law { LawIs (C.alone cells.new) (C.law cells.new) (C.noted cells.new) IsSevens }
+    ensures same { C.same cells.old cells.new }
+{
+    match see(cells, by, id) {
+        Ok(look) => Some(look),
+        Err(_) => None,
+    }
 }
 
 /// Why a claim is refused. One that is given is given up, and the answer is `None`.

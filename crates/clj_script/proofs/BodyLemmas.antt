@@ -23,7 +23,8 @@ use Rattle.clj_script.specs.Scopes.{Definitions, name_of, is_unbindable, refused
 use Rattle.clj_script.specs.Scripts.{parameter_refusals, vector_refusals, twice_refusals, count_of, names_of, JudgedClauses, no_clause, one_more_clause}
 use Rattle.clj_script.specs.Seen.{body_over}
 use Rattle.clj_script.specs.Sources.{Source, place_of}
-use Rattle.clj_script.specs.Tops.{lazy_bodies, numbers_of_bodies, counts_of, refused_at, IsWhole, KeepsGiven, KeepsTrees, HasCompiled, HasNames, HasParameters, HasClauses}
+use Rattle.clj_script.specs.Tops.{lazy_bodies, counts_of, refused_at, IsWhole, KeepsGiven, KeepsTrees, HasCompiled, HasNames, HasParameters, HasClauses}
+use Rattle.clj_script.specs.Numbered.{numbers_of_bodies}
 use Rattle.clj_script.specs.Trees.{Expr}
 use Rattle.clj_script.proofs.ArenaLemmas.{below_more}
 use Rattle.clj_script.proofs.EntryLemmas.{map-one, take_more}

@@ -1,5 +1,5 @@
 -- Expressions that are put, and built of the last values.
-use Rattle.std.proofs.Common.{◌≡◌, ℕ, ◌+◌, ◌-◌, List, [], ◌∷◌, ◌++◌, length, map, Option, refl, sym, ◌∙◌, ap, subst, arith, suc, append_assoc, append-nil, length-append}
+use Rattle.std.proofs.Common.{◌≡◌, Bool, true, false, ◌&&◌, ℕ, ◌+◌, ◌-◌, List, [], ◌∷◌, ◌++◌, length, map, Option, refl, sym, ◌∙◌, ap, subst, arith, suc, append_assoc, append-nil, length-append}
 use Rattle.clj_script.specs.declared.refusal.ScriptRefusal.{ScriptRefusal}
 use Rattle.clj_script.specs.declared.expr.Expr.{Expr as Node}
 use Rattle.clj_script.specs.declared.machine.Machine.{Machine}
@@ -8,17 +8,16 @@ use Rattle.clj_script.specs.declared.task.Build.TheVariants.{Vector, Call, Let, 
 use Rattle.std.proofs.lemmas.List.{length-map, map-append}
 use Rattle.std.proofs.Math.Seq.{take-append_seam, drop-append_seam}
 use Rattle.seq_values.specs.declared.value.Value as value
-use Rattle.seq_values.specs.declared.value.Node as node_value
-use Rattle.seq_values.specs.declared.value.Node.TheViews as views
 use Rattle.clj_script.specs.Literals.{literal_of}
 use Rattle.clj_script.specs.Locals.{all_but_last}
 use Rattle.clj_script.specs.declared.expr.Expr.TheVariants as node
 use Rattle.clj_script.specs.Trees.{Expr}
 use Rattle.clj_script.specs.Trees as tree
 use Rattle.clj_script.specs.Arena.{AllBelow, LowerFrom, trees_behind}
-use Rattle.clj_script.specs.Nodes.{at, tree_over, trees_of, parts_of}
+use Rattle.clj_script.specs.Nodes.{at, tree_over, trees_of, parts_of, is_writable, are_writable}
 use Rattle.clj_script.specs.Machines.{Now, IsSound, HasGiven, HasBuilt, Takes, trees, made, taking, front, back, locals_behind, bodies_behind}
 use Rattle.clj_script.proofs.ArenaLemmas.{at-last, all_at-kept, below_more, below_both, trees_behind-append, trees_behind-join, trees_keep, lower_more, Keeps}
+use Rattle.clj_script.proofs.LiteralLemmas.{nil_is}
 use Rattle.clj_script.proofs.SeenLemmas.{nodes-length}
 use Rattle.clj_script.proofs.EntryLemmas.{map-one}
 use Rattle.clj_script.proofs.TaskLemmas.{below_parts}
@@ -48,9 +47,19 @@ now_with ls bs vs r = record { locals = ls; bodies = bs; values = vs; least = r 
 pub now_same : {ls ls' : List (List ℕ)} {bs bs' vs vs' : List Expr} {r r' : Option ScriptRefusal} → ls ≡ ls' → bs ≡ bs' → vs ≡ vs' → r ≡ r' → now_with ls bs vs r ≡ now_with ls' bs' vs' r'
 now_same e f g h = (cc)
 
+written_both : (es : List Node) (e : Node) → are_writable es ≡ true → is_writable e ≡ true → are_writable (es ++ e ∷ []) ≡ true
+written_both [] e h k = and_true (is_writable e) k where
+  and_true : (b : Bool) → b ≡ true → (b && true) ≡ true
+  and_true true g = refl
+  and_true false g = absurd cc
+written_both (x ∷ es) e h k = both_true (is_writable x) h (λ g. written_both es e g k) where
+  both_true : (b : Bool) → (b && are_writable es) ≡ true → (are_writable es ≡ true → are_writable (es ++ e ∷ []) ≡ true) → (b && are_writable (es ++ e ∷ [])) ≡ true
+  both_true true g f = f g
+  both_true false g f = absurd cc
+
 -- one more expression is put and becomes the last value
-pub gave : (old new : Machine) (e : Node) (n : ℕ) → IsSound old → AllBelow (length old.nodes.items) (parts_of e) → n ≡ length old.nodes.items → new.nodes.items ≡ old.nodes.items ++ e ∷ [] → new.values.items ≡ old.values.items ++ n ∷ [] → new.bodies ≡ old.bodies → new.locals ≡ old.locals → new.least ≡ old.least → new.tasks ≡ old.tasks → HasGiven old new (tree_over (trees old) e)
-gave old new e n s b f nodes values bodies locals least tasks =
+pub gave : (old new : Machine) (e : Node) (n : ℕ) → IsSound old → AllBelow (length old.nodes.items) (parts_of e) → is_writable e ≡ true → n ≡ length old.nodes.items → new.nodes.items ≡ old.nodes.items ++ e ∷ [] → new.values.items ≡ old.values.items ++ n ∷ [] → new.bodies ≡ old.bodies → new.locals ≡ old.locals → new.least ≡ old.least → new.tasks ≡ old.tasks → HasGiven old new (tree_over (trees old) e)
+gave old new e n s b w f nodes values bodies locals least tasks =
     let len : length new.nodes.items ≡ length old.nodes.items + 1 = ap length nodes ∙ length-append old.nodes.items (e ∷ []) in
     let stay : (ks : List ℕ) → AllBelow (length old.nodes.items) ks → map (at (trees new)) ks ≡ map (at (trees old)) ks =
     λ ks h. ap (λ (ns : List Node). map (at (trees_of ns)) ks) nodes ∙ all_trees_stay old.nodes.items (e ∷ []) ks h in
@@ -58,6 +67,7 @@ gave old new e n s b f nodes values bodies locals least tasks =
     record {
       sound = record {
         lower = subst (λ (ns : List Node). LowerFrom parts_of 0 ns) (sym nodes) (lower_more parts_of 0 old.nodes.items e s.lower (subst (λ (m : ℕ). AllBelow m (parts_of e)) (omega arith) b));
+        written = ap are_writable nodes ∙ written_both old.nodes.items e s.written w;
         bodies = subst (λ (ks : List ℕ). AllBelow (length new.nodes.items) ks) (sym (ap (λ v. v.items) bodies)) (below_more (length old.nodes.items) (length new.nodes.items) old.bodies.items (omega arith) s.bodies);
         values = subst (λ (ks : List ℕ). AllBelow (length new.nodes.items) ks) (sym values) (below_both (length new.nodes.items) old.values.items n (below_more (length old.nodes.items) (length new.nodes.items) old.values.items (omega arith) s.values) (omega arith));
       };
@@ -82,6 +92,7 @@ takes_sound {old = old} {new = new} {taken = taken} s t =
     let f : new.bodies ≡ old.bodies = t.bodies in
     record {
       lower = rw e s.lower;
+      written = rw e s.written;
       bodies = rw (e, f) s.bodies;
       values = rw e (below_front (length old.nodes.items) new.values.items taken (rw t.values at s.values));
     }
@@ -178,16 +189,8 @@ module _ {old mid new : Machine} where
       (ap (map (at (trees old))) (bodies ∙ ap (λ bs. bs.items ++ expr ∷ []) t.bodies) ∙ map-one (at (trees old)) old.bodies.items expr)
       (ap tree.lazy_seq (number ∙ ap (λ bs. length bs.items) t.bodies)) g
 
-pub literal-nil : literal_of value.Nil ≡ tree.nil_literal
-unfolding views.out-Value denote.Hole.Carrier.out
-literal-nil = refl
-
-pub literal-empty : literal_of (value.Node node_value.Empty) ≡ tree.empty_literal
-unfolding views.out-Value denote.Hole.Carrier.out
-literal-empty = refl
-
 -- the literal nil is built of no value
 pub built_nil : (old new : Machine) → HasGiven old new (tree_over (trees old) (node.Literal value.Nil)) → HasBuilt old new Nil
 unfolding tree_over
 built_nil old new g =
-    built_of old old old new Nil [] (tree.literal (literal_of value.Nil)) (record { values = sym (append-nil old.values.items); nodes = refl; bodies = refl; locals = refl; least = refl; tasks = refl }) refl refl refl refl refl refl refl (ap tree.literal literal-nil) g
+    built_of old old old new Nil [] (tree.literal (literal_of value.Nil)) (record { values = sym (append-nil old.values.items); nodes = refl; bodies = refl; locals = refl; least = refl; tasks = refl }) refl refl refl refl refl refl refl (ap tree.literal nil_is.0) g

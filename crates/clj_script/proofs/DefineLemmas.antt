@@ -22,7 +22,8 @@ use Rattle.clj_script.specs.Scopes.{Definitions, name_of}
 use Rattle.clj_script.specs.Scripts.{SoFar, with_bodies, with_top, with_function, defining, with_own, is_new, after_def, after_defn, name_refusals, def_of, defn_of, of_def, of_defn, JudgedClauses}
 use Rattle.clj_script.specs.Seen.{top_over, body_over}
 use Rattle.clj_script.specs.Sources.{Source}
-use Rattle.clj_script.specs.Tops.{so_far, lazy_bodies, numbers_of_bodies, IsWhole, HasCompiled, HasTakenAs, HasDefined, HasClauses}
+use Rattle.clj_script.specs.Tops.{so_far, lazy_bodies, IsWhole, HasCompiled, HasTakenAs, HasDefined, HasClauses}
+use Rattle.clj_script.specs.Numbered.{numbers_of_bodies}
 use Rattle.clj_script.specs.Trees.{Expr, def, defn}
 use Rattle.clj_script.proofs.EntryLemmas.{map-one}
 use Rattle.clj_script.proofs.KeptLemmas.{more_same, more_both, so_far_of, lazy_same, whole_same, whole_compiled, given_compiled, given_grown, tops_below_both, functions_below_both}

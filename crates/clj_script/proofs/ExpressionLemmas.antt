@@ -52,7 +52,7 @@ abbrev pub with_tasks : Machine → Vec Task Global → Machine
 with_tasks m ts = record { nodes = m.nodes; bodies = m.bodies; locals = m.locals; least = m.least; values = m.values; tasks = ts }
 
 pub sound_still : (m : Machine) (ts : Vec Task Global) → IsSound m → IsSound (with_tasks m ts)
-sound_still m ts s = record { lower = s.lower; bodies = s.bodies; values = s.values }
+sound_still m ts s = record { lower = s.lower; written = s.written; bodies = s.bodies; values = s.values }
 
 -- While a form is compiled, what it comes to is what the tasks now come to.
 pub record IsUnderWay (d : Definitions) (es : List Entry) (old : Machine) (fs : List Entry) (m : Machine) (form : ℕ) : Type 0 where
@@ -147,7 +147,7 @@ module _ (d : Definitions) (es : List Entry) (old : Machine) (fs : List Entry) (
       compiled = record {
         forms = h.forms;
         lower = h.lower;
-        sound = record { lower = h.sound.lower; bodies = h.sound.bodies; values = below.0 };
+        sound = record { lower = h.sound.lower; written = h.sound.written; bodies = h.sound.bodies; values = below.0 };
         values = none_left ∙ sym idle.values;
         tasks = f ∙ sym idle.tasks;
         nodes = h.nodes;

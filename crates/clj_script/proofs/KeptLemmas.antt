@@ -12,11 +12,12 @@ use Rattle.clj_script.specs.declared.top.Tops.{Tops}
 use Rattle.clj_script.specs.Arena.{AllBelow, LowerFrom}
 use Rattle.clj_script.specs.Entries.{IsLower, form_at}
 use Rattle.clj_script.specs.Machines.{HasMore, IsSound, trees}
-use Rattle.clj_script.specs.Nodes.{at, tree_over, trees_of, parts_of}
+use Rattle.clj_script.specs.Nodes.{at, tree_over, trees_of, parts_of, are_writable}
 use Rattle.clj_script.specs.Scripts.{SoFar, with_bodies}
 use Rattle.clj_script.specs.Seen.{top_over, body_over}
 use Rattle.clj_script.specs.Sources.{Source}
-use Rattle.clj_script.specs.Tops.{so_far, numbers_of_bodies, AreBodiesBelow, number_of_top, AreTopsBelow, lazy_bodies, IsWhole, KeepsGiven, KeepsTrees, HasCompiled}
+use Rattle.clj_script.specs.Tops.{so_far, lazy_bodies, IsWhole, KeepsGiven, KeepsTrees, HasCompiled}
+use Rattle.clj_script.specs.Numbered.{numbers_of_bodies, AreBodiesBelow, number_of_top, AreTopsBelow}
 use Rattle.clj_script.specs.Scopes.{Definitions}
 use Rattle.clj_script.specs.Trees.{Expr, literal, nil_literal}
 use Rattle.clj_script.specs.Trees as tree
@@ -110,6 +111,7 @@ lazy_same old new t = ap (λ (ns : List ℕ). map (at (trees new.machine)) ns) t
 sound_same : (old new : Machine) → IsSound old → new.nodes.items ≡ old.nodes.items → new.bodies.items ≡ old.bodies.items → new.values.items ≡ old.values.items → IsSound new
 sound_same old new s e f g = record {
   lower = subst (λ (es : List Node). LowerFrom parts_of 0 es) (sym e) s.lower;
+  written = ap are_writable e ∙ s.written;
   bodies = subst (λ (es : List Node). AllBelow (length es) new.bodies.items) (sym e) (subst (λ (ns : List ℕ). AllBelow (length old.nodes.items) ns) (sym f) s.bodies);
   values = subst (λ (es : List Node). AllBelow (length es) new.values.items) (sym e) (subst (λ (ns : List ℕ). AllBelow (length old.nodes.items) ns) (sym g) s.values);
 }

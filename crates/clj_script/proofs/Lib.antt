@@ -1,3 +1,5 @@
+pub mod LiteralLemmas
+pub mod WrittenLemmas
 pub mod UniqueLemmas
 pub mod LocalLemmas
 pub mod ArenaLemmas
@@ -24,3 +26,6 @@ pub mod TopFormLemmas
 pub mod MeaningLemmas
 pub mod EnoughLemmas
 pub mod ExpressionLemmas
+pub mod ClosedLemmas
+pub mod ClosedTopLemmas
+pub mod EveryLemmas

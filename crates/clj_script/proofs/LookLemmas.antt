@@ -23,7 +23,8 @@ use Rattle.clj_script.specs.Trees.{Expr}
 use Rattle.clj_script.specs.Trees as tree
 use Rattle.clj_script.specs.Arena.{AllBelow}
 use Rattle.clj_script.specs.Nodes.{at, tree_over}
-use Rattle.clj_script.specs.Literals.{literal_of}
+use Rattle.clj_script.specs.declared.atom.Atom.{Atom}
+use Rattle.clj_script.specs.Literals.{literal_of, literal_of_atom}
 use Rattle.clj_script.specs.Entries.{form_at, form_over, form_with, forms_of, parts_of, parts_of_content, IsLower, IsAdded}
 use Rattle.clj_script.specs.Refusals.{refusal, earlier, earliest}
 use Rattle.clj_script.specs.Scopes.{Definitions, innermost, innermost_from, or_else}
@@ -36,7 +37,7 @@ use Rattle.clj_script.specs.Machines.{Todo, look, bind, build, looks, lets, Plan
 use Rattle.clj_script.proofs.ArenaLemmas.{below_more}
 use Rattle.clj_script.proofs.EntryLemmas.{form_at-kept, listed_sources}
 use Rattle.clj_script.proofs.TaskLemmas.{todos-more, within_more}
-use Rattle.clj_script.proofs.BuildLemmas.{literal-nil, literal-empty}
+use Rattle.clj_script.proofs.LiteralLemmas.{nil_is, empty_is}
 
 -- an expression was given at once
 pub answered_given : {old new : Machine} {e : Expr} → HasGiven old new e → HasAnswered old new (gives e [])
@@ -45,12 +46,12 @@ answered_given g = record { sound = g.sound; nodes = g.nodes; tasks = g.tasks; a
 -- the empty list was given
 pub answered_empty : {old new : Machine} → HasGiven old new (tree_over (trees old) (node.Literal (value.Node node_value.Empty))) → HasAnswered old new (gives (tree.literal tree.empty_literal) [])
 unfolding tree_over
-answered_empty {old = old} {new = new} g = answered_given (subst (λ (l : tree.Literal). HasGiven old new (tree.literal l)) literal-empty g)
+answered_empty {old = old} {new = new} g = answered_given (subst (λ (l : tree.Literal). HasGiven old new (tree.literal l)) empty_is.0 g)
 
 -- a literal was given
-pub answered_literal : {old new : Machine} {v w : value.Value} → v ≡ w → HasGiven old new (tree_over (trees old) (node.Literal v)) → HasAnswered old new (gives (tree.literal (literal_of w)) [])
+pub answered_literal : {old new : Machine} (v : value.Value) {l : tree.Literal} → literal_of v ≡ l → HasGiven old new (tree_over (trees old) (node.Literal v)) → HasAnswered old new (gives (tree.literal l) [])
 unfolding tree_over
-answered_literal {old = old} {new = new} e g = answered_given (subst (λ (x : value.Value). HasGiven old new (tree.literal (literal_of x))) e g)
+answered_literal {old = old} {new = new} v e g = answered_given (subst (λ (x : tree.Literal). HasGiven old new (tree.literal x)) e g)
 
 abbrev pub with_least : Least → Machine → Machine
 with_least least m = record { nodes = m.nodes; bodies = m.bodies; locals = m.locals; least = least; values = m.values; tasks = m.tasks }
@@ -65,7 +66,7 @@ answered_refused {old = old} least n p e g = record {
   asked = refl;
   now = g.now
       ∙ ap (λ (l : Least). record { locals = old.locals; bodies = map (at (trees old)) old.bodies.items; values = map (at (trees old)) old.values.items ++ tree.literal (literal_of value.Nil) ∷ []; least = l.found }) e
-      ∙ ap (λ (l : tree.Literal). record { locals = old.locals; bodies = map (at (trees old)) old.bodies.items; values = map (at (trees old)) old.values.items ++ tree.literal l ∷ []; least = earlier old.least.found (refusal n p) }) literal-nil;
+      ∙ ap (λ (l : tree.Literal). record { locals = old.locals; bodies = map (at (trees old)) old.bodies.items; values = map (at (trees old)) old.values.items ++ tree.literal l ∷ []; least = earlier old.least.found (refusal n p) }) nil_is.0;
 }
 
 pub looked_as : {es fs : List Entry} {old new : Machine} {plan wanted : Plan} → wanted ≡ plan → HasLooked es old fs new plan → HasLooked es old fs new wanted
@@ -91,7 +92,7 @@ pub looked_pushed : {es : List Entry} {old : Machine} {tasks : Vec Task Global} 
 looked_pushed {es = es} {old = old} s l w b e p = record {
   forms = record { more = []; grown = sym (append-nil es) };
   lower = l;
-  sound = record { lower = s.lower; bodies = s.bodies; values = s.values };
+  sound = record { lower = s.lower; written = s.written; bodies = s.bodies; values = s.values };
   within = p.within (length es) w b;
   nodes = record { more = []; grown = sym (append-nil old.nodes.items) };
   stand = p.stand es ∙ ap (λ ts. ts ++ todos es old.tasks.items) (sym e);
@@ -122,7 +123,7 @@ looked_threaded {es = es} {fs = fs} {old = old} whole form rs s w a r t =
     record {
       forms = record { more = a.more; grown = a.grown };
       lower = a.lower;
-      sound = record { lower = s.lower; bodies = s.bodies; values = s.values };
+      sound = record { lower = s.lower; written = s.written; bodies = s.bodies; values = s.values };
       within = rw t (within_more (length fs) old.tasks.items (task.Look whole) (within_further (length es) (length fs) old.tasks.items longer w) (a.below, tt));
       nodes = record { more = []; grown = sym (append-nil old.nodes.items) };
       stand = ap (todos fs) t ∙ todos-more fs old.tasks.items (task.Look whole) ∙ ap (λ x. look x ∷ todos fs old.tasks.items) a.stands ∙ ap (λ es'. look form ∷ todos es' old.tasks.items) a.grown ∙ ap (λ ts. look form ∷ ts) (todos-kept es a.more old.tasks.items w);
@@ -139,8 +140,8 @@ pub let_wanted : (f : ℕ × ℕ → Source × Source) (pairs ps : List (ℕ × 
 let_wanted f pairs ps body e = ap (λ qs. lets (map f qs) ++ look body ∷ replicate (length (map f qs)) (build Let)) (sym e) ∙ ap (λ n. lets (map f ps) ++ look body ∷ replicate n (build Let)) (length-map ps f)
 
 module _ (d : Definitions) (ls : List (List ℕ)) (es : List Entry) (form : Source) (e : Entry) (is : form ≡ form_over (forms_of es) e) where
-  pub plan_literal : (v : value.Value) → e.content ≡ content.Literal v → plan_of d ls form ≡ gives (tree.literal (literal_of v)) []
-  plan_literal v f = ap (plan_of d ls) is ∙ ap (λ c. plan_of d ls (form_with (forms_of es) e.place c)) f
+  pub plan_literal : (a : Atom) → e.content ≡ content.Literal a → plan_of d ls form ≡ gives (tree.literal (literal_of_atom a)) []
+  plan_literal a f = ap (plan_of d ls) is ∙ ap (λ c. plan_of d ls (form_with (forms_of es) e.place c)) f
 
   pub plan_vector : (items : Vec ℕ Global) (ns : List ℕ) → e.content ≡ content.Vector items → ns ≡ items.items → plan_of d ls form ≡ asks (looks (map (form_at es) ns) ++ build (Vector (length ns)) ∷ []) []
   plan_vector items ns f g = ap (plan_of d ls) is ∙ ap (λ c. plan_of d ls (form_with (forms_of es) e.place c)) f ∙ ap (λ ss. asks (looks ss ++ build (Vector (length ss)) ∷ []) []) (listed_sources (map (form_at es) items.items)) ∙ ap (λ ms. asks (looks (map (form_at es) ms) ++ build (Vector (length (map (form_at es) ms))) ∷ []) []) (sym g) ∙ ap (λ ts. asks ts []) (all_wanted Vector (form_at es) ns)

@@ -14,6 +14,7 @@ use Rattle.clj_script.specs.declared.refusal.CompileStop.TheVariants.{Refused, M
 use Rattle.clj_script.specs.declared.source.Entry.{Entry}
 use Rattle.clj_script.specs.declared.top.Tops.{Tops}
 use Rattle.clj_script.specs.Arena.{AllBelow}
+use Rattle.clj_script.specs.Closed.{IsClosedProgram}
 use Rattle.clj_script.specs.Entries.{IsLower, form_at, AreAdded}
 use Rattle.clj_script.specs.Machines.{HasMore}
 use Rattle.clj_script.specs.Names.{defined}
@@ -23,6 +24,7 @@ use Rattle.clj_script.specs.Seen.{seen, seen_parts, IsRefusal, Gives}
 use Rattle.clj_script.specs.Sources.{Source, sources_of}
 use Rattle.clj_script.specs.Tops.{so_far, IsWhole, HasTaken}
 use Rattle.clj_script.specs.Trees as tree
+use Rattle.clj_script.proofs.ClosedTopLemmas.{means_closed}
 use Rattle.clj_script.proofs.EntryLemmas.{take_more, map-one}
 use Rattle.clj_script.proofs.KeptLemmas.{more_same, more_both, form_stays}
 use Rattle.clj_script.proofs.RefusalLemmas.{none_refused, least_refused, one_least, least_of_none}
@@ -120,6 +122,10 @@ module _ (es : List Entry) (t : Tops) (ns : List ℕ) (forms : List Form) (h : H
       let none : h.refusals ≡ [] = none_refused h.refusals (sym h.least ∙ f.1) in
       subst (λ (p : tree.Program). Means forms p []) (sym f.0) (subst (λ (rs : List ScriptRefusal). Means forms (program_of (so_far t)) rs) none m)
   compiled_found (Err stop) f = tt
+
+  pub compiled_closed : (result : Result Program CompileStop) → IsFinished t result → IfOk result (λ program. IsClosedProgram (seen program))
+  compiled_closed (Ok program) f = means_closed forms (seen program) [] (compiled_found (Ok program) f)
+  compiled_closed (Err stop) f = tt
 
   least_there : (r : ScriptRefusal) → t.machine.least.found ≡ Some r → IsLeast r h.refusals
   least_there r f = least_refused h.refusals r (sym h.least ∙ f)

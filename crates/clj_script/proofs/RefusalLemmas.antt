@@ -108,6 +108,10 @@ least_refused (s ∷ rs) r e =
     let g : f.found ≡ r = some_same (sym f.is ∙ ap (λ o. earliest o rs) (sym (earlier_none s)) ∙ e) in
     subst (λ (q : ScriptRefusal). IsLeast q (s ∷ rs)) g f.least
 
+-- one of several is the least
+pub least_of_all : (r : ScriptRefusal) (rs : List ScriptRefusal) → (l : ScriptRefusal) × IsLeast l (r ∷ rs)
+least_of_all r rs = let f : Finds r rs = finds r rs in (f.found, f.least)
+
 -- several have one least
 pub one_least : (r s : ScriptRefusal) (rs : List ScriptRefusal) → IsLeast r rs → IsLeast s rs → r ≡ s
 one_least r s rs a b = same_refusal r s (All-contains (λ t. comes_before t s ≡ false) rs r b.least a.among) (All-contains (λ t. comes_before t r ≡ false) rs s a.least b.among)

@@ -1,6 +1,8 @@
 -- What a program shows of itself.
-use Rattle.std.proofs.Common.{◌≡◌, ℕ, ◌+◌, ◌<◌, zero, suc, List, [], ◌∷◌, ◌++◌, length, map, Option, Some, None, refl, sym, ◌∙◌, ap, subst, arith}
-use Rattle.std.specs.Prelude.{slice_get}
+use Rattle.std.proofs.Common.{◌≡◌, Bool, true, false, ◌&&◌, ℕ, ◌+◌, ◌<◌, zero, suc, List, [], ◌∷◌, ◌++◌, length, map, Option, Some, None, refl, sym, ◌∙◌, ap, subst, arith}
+use Rattle.std.specs.Prelude.{slice_get, slice_index_or}
+use Rattle.std.specs.declared.vec.Vec.{Vec}
+use Rattle.std.specs.declared.alloc.Global.{Global}
 use Rattle.std.specs.Option.{option_map}
 use Rattle.clj_script.specs.declared.expr.Expr.{Expr}
 use Rattle.std.specs.Prelude.{◌-◌, MatchOption, IfSome}
@@ -8,11 +10,14 @@ use Rattle.std.specs.Option.{option_copied}
 use Rattle.std.specs.Borrow.{Bor}
 use Rattle.clj_script.specs.declared.expr.Expr.TheVariants as node
 use Rattle.clj_script.specs.Arena as arena
-use Rattle.clj_script.specs.Seen.{numbered}
+use Rattle.clj_script.specs.Seen.{numbered, body_in, body_of}
 use Rattle.clj_script.proofs.ArenaLemmas.{at-kept, all_at-kept, below_more, no_item, no_item_there, trees-length, read_behind}
 use Rattle.clj_script.specs.Trees as tree
 use Rattle.clj_script.specs.Arena.{AllBelow, trees_behind, LowerFrom}
-use Rattle.clj_script.specs.Nodes.{tree_over, trees_of, parts_of}
+use Rattle.clj_script.specs.Nodes.{tree_over, trees_of, parts_of, is_writable, are_writable}
+use Rattle.clj_script.specs.Numbered.{numbers_of_bodies, AreBodiesBelow, number_of_top, AreTopsBelow}
+use Rattle.clj_script.specs.declared.program.Body.{Body}
+use Rattle.clj_script.specs.declared.program.Top.{Top}
 
 abbrev nil : tree.Expr
 nil = tree.literal tree.nil_literal
@@ -101,3 +106,59 @@ lower_at k (x ∷ es) (suc n) e l f = subst (λ (m : ℕ). AllBelow m (parts_of 
 pub shown_lower : (o : Option (Bor Expr)) (es : List Expr) (n : ℕ) → LowerFrom parts_of 0 es → option_copied o ≡ slice_get es n → IfSome o (λ e. AllBelow n (parts_of e.now))
 shown_lower None es n l e = tt
 shown_lower (Some b) es n l e = subst (λ (m : ℕ). AllBelow m (parts_of b.now)) (omega arith) (lower_at 0 es n b.now l (sym e))
+
+-- ## What is named is there
+
+pub number_there : (o : Option ℕ) (ns : List ℕ) (i : ℕ) (es : List Expr) → AllBelow (length es) ns → o ≡ slice_get ns i → IfSome o (λ n. n < length (trees_of es))
+number_there None ns i es b e = tt
+number_there (Some n) [] i es b e = absurd (no_item i n (sym e))
+number_there (Some n) (k ∷ ns) zero es b e = let g : k ≡ n = (cc) in omega (arith, g, b.0, nodes-length es)
+number_there (Some n) (k ∷ ns) (suc i) es b e = number_there (Some n) ns i es b.1 e
+
+pub top_there : (o : Option Top) (ts : List Top) (i : ℕ) (es : List Expr) → AreTopsBelow (length es) ts → o ≡ slice_get ts i → IfSome o (λ t. AllBelow (length (trees_of es)) (number_of_top t))
+top_there None ts i es b e = tt
+top_there (Some t) [] i es b e = absurd (no_item i t (sym e))
+top_there (Some t) (u ∷ ts) zero es b e =
+    let g : u ≡ t = (cc) in
+    subst (λ (n : ℕ). AllBelow n (number_of_top t)) (sym (nodes-length es)) (subst (λ (x : Top). AllBelow (length es) (number_of_top x)) g b.0)
+top_there (Some t) (u ∷ ts) (suc i) es b e = top_there (Some t) ts i es b.1 e
+
+pub bodies_there : {F : Type 0} (bound : ℕ) (bodies_of : F → List Body) (fs : List F) (i : ℕ) (f : F) → AreBodiesBelow bound bodies_of fs → slice_get fs i ≡ Some f → AllBelow bound (numbers_of_bodies (bodies_of f))
+bodies_there bound bodies_of [] i f b e = absurd (no_item i f e)
+bodies_there bound bodies_of (g ∷ fs) zero f b e = let h : g ≡ f = (cc) in subst (λ x. AllBelow bound (numbers_of_bodies (bodies_of x))) h b.0
+bodies_there bound bodies_of (g ∷ fs) (suc i) f b e = bodies_there bound bodies_of fs i f b.1 e
+
+pub body_there : (bound : ℕ) (bodies : List Body) (i : ℕ) (body : Body) → AllBelow bound (numbers_of_bodies bodies) → slice_get bodies i ≡ Some body → body.expr < bound
+body_there bound [] i body b e = absurd (no_item i body e)
+body_there bound (x ∷ bodies) zero body b e = let h : x ≡ body = (cc) in subst (λ (y : Body). y.expr < bound) h b.0
+body_there bound (x ∷ bodies) (suc i) body b e = body_there bound bodies i body b.1 e
+
+pub body_below : (bound : ℕ) (bodies : List Body) (i : ℕ) (other : Body) → AllBelow bound (numbers_of_bodies bodies) → i < length bodies → (slice_index_or bodies i other).expr < bound
+body_below bound [] i other b h = absurd (omega arith)
+body_below bound (x ∷ bodies) zero other b h = b.0
+body_below bound (x ∷ bodies) (suc i) other b h = body_below bound bodies i other b.1 (omega arith)
+
+-- a function's body is there, where each of the function's bodies is
+pub function_there : (o : Option ℕ) (es : List Expr) (fs : List (Vec Body Global)) (i : ℕ) (f : Vec Body Global) (bodies : List Body) → AreBodiesBelow (length es) (λ bodies. bodies.items) fs → slice_get fs i ≡ Some f → bodies ≡ f.items → ((bound : ℕ) → AllBelow bound (numbers_of_bodies bodies) → IfSome o (λ n. n < bound)) → IfSome o (λ n. n < length (trees_of es))
+function_there o es fs i f bodies b e g h =
+    let below : AllBelow (length es) (numbers_of_bodies bodies) = subst (λ (bs : List Body). AllBelow (length es) (numbers_of_bodies bs)) (sym g) (bodies_there (length es) (λ (bodies : Vec Body Global). bodies.items) fs i f b e) in
+    subst (λ (m : ℕ). IfSome o (λ n. n < m)) (sym (nodes-length es)) (h (length es) below)
+
+-- a function that isn't there has no body
+pub no_function : {F : Type 0} (bodies_of : F → List (ℕ × tree.Expr)) (fs : List F) (i count : ℕ) → slice_get fs i ≡ None → None ≡ body_of (map bodies_of fs) i count
+no_function bodies_of fs i count e = sym (ap (λ o. body_in o count) (mapped_item bodies_of fs i ∙ ap (option_map bodies_of) e))
+
+writable_at : (es : List Expr) (n : ℕ) (e : Expr) → are_writable es ≡ true → slice_get es n ≡ Some e → is_writable e ≡ true
+writable_at [] n e h f = absurd (no_item n e f)
+writable_at (x ∷ es) zero e h f = let g : x ≡ e = (cc) in subst (λ (y : Expr). is_writable y ≡ true) g (first_true (is_writable x) h) where
+  first_true : (b : Bool) → (b && are_writable es) ≡ true → b ≡ true
+  first_true true h = refl
+  first_true false h = absurd cc
+writable_at (x ∷ es) (suc n) e h f = writable_at es n e (rest_true (is_writable x) h) f where
+  rest_true : (b : Bool) → (b && are_writable es) ≡ true → are_writable es ≡ true
+  rest_true true h = h
+  rest_true false h = absurd cc
+
+pub written_there : (o : Option (Bor Expr)) (es : List Expr) (n : ℕ) → are_writable es ≡ true → option_copied o ≡ slice_get es n → IfSome o (λ e. is_writable e.now ≡ true)
+written_there None es n h e = tt
+written_there (Some b) es n h e = writable_at es n b.now h (sym e)

@@ -61,7 +61,7 @@ plain_ledger [] = refl
 plain_ledger (s ∷ args) = refl
 
 -- a list that isn't headed by a word that threads
-plain_headed : (o : Option Reserved) (args : List Source) → way_of o ≡ None → is_threading (headed_at_top o args) ≡ false
+pub plain_headed : (o : Option Reserved) (args : List Source) → way_of o ≡ None → is_threading (headed_at_top o args) ≡ false
 plain_headed None args e = refl
 plain_headed (Some reserved.Outside) args e = refl
 plain_headed (Some (reserved.Special special.Def)) args e = plain_def args
@@ -78,7 +78,7 @@ plain_headed (Some (reserved.Special special.ThreadSecond)) args e = absurd (non
 plain_headed (Some (reserved.Special special.ThreadLast)) args e = absurd (none_some (sym e))
 
 -- a word alone
-plain_alone : (o : Option Reserved) → is_threading (headed_at_top o []) ≡ false
+pub plain_alone : (o : Option Reserved) → is_threading (headed_at_top o []) ≡ false
 plain_alone None = refl
 plain_alone (Some reserved.Outside) = refl
 plain_alone (Some (reserved.Special special.Def)) = refl
@@ -118,7 +118,7 @@ pub plain_list : (s : Source) (f : ℕ → Source) (ns : List ℕ) → in_round 
 plain_list s f [] e h w = absurd (omega arith)
 plain_list s f (n ∷ ns) e h w = ap is_threading (top_reading_of s (f n ∷ map f ns) e) ∙ plain_headed (heading (f n)) (map f ns) w
 
-headed_way : (o : Option Reserved) (way : Way) (x : Source) (steps : List Source) → way_of o ≡ Some way → headed_at_top o (x ∷ steps) ≡ stands_for (written_out way x steps) (refusals_of_steps steps)
+pub headed_way : (o : Option Reserved) (way : Way) (x : Source) (steps : List Source) → way_of o ≡ Some way → headed_at_top o (x ∷ steps) ≡ stands_for (written_out way x steps) (refusals_of_steps steps)
 headed_way None way x steps e = absurd (none_some e)
 headed_way (Some reserved.Outside) way x steps e = absurd (none_some e)
 headed_way (Some (reserved.Special special.Def)) way x steps e = absurd (none_some e)
@@ -150,7 +150,7 @@ light_word (atom q l) x st way e = absurd (none_some e)
 light_word (round q ss) x st way e = absurd (none_some e)
 light_word (square q ss) x st way e = absurd (none_some e)
 
-light_items : (items : Sources) (h x : Source) (steps : List Source) (way : Way) → listed items ≡ h ∷ x ∷ steps → way_of (heading h) ≡ Some way → weight (written_out way x steps) < 2 + weight_headed items
+pub light_items : (items : Sources) (h x : Source) (steps : List Source) (way : Way) → listed items ≡ h ∷ x ∷ steps → way_of (heading h) ≡ Some way → weight (written_out way x steps) < 2 + weight_headed items
 light_items no_more h x steps way e w = absurd (nil_cons e)
 light_items (before k no_more) h x steps way e w = absurd (nil_cons (rest_same e))
 light_items (before k (before y st)) h x steps way e w =
@@ -183,7 +183,7 @@ threads s f (n ∷ m ∷ ns) way e h w = record {
 pub has_written : (old new : Tops) (s x : Source) (steps : List Source) (way : Way) (n : ℕ) → IsWhole [] old → Threads s way x steps → IsAdded old.sources.items new.sources.items n (written_out way x steps) → new.machine ≡ with_least new.machine.least.found old.machine → new.definitions ≡ old.definitions → new.functions ≡ old.functions → new.tops ≡ old.tops → new.machine.least.found ≡ earliest old.machine.least.found (refusals_of_steps steps) → HasWritten old new s n
 has_written old new s x steps way n w t a e f g h l = record {
   whole = record {
-    sound = rw e (record { lower = w.sound.lower; bodies = w.sound.bodies; values = w.sound.values });
+    sound = rw e (record { lower = w.sound.lower; written = w.sound.written; bodies = w.sound.bodies; values = w.sound.values });
     idle = rw e (record { values = w.idle.values; tasks = w.idle.tasks });
     scope = rw e w.scope;
     lower = a.lower;

@@ -20,7 +20,8 @@ use Rattle.std.specs.List.{list_any}
 use Rattle.clj_script.specs.Scripts.{SoFar, with_bodies, with_top, TopReading, top_reading, stray_list, wrong, stray, prn_of, ledger_of, of_top, JudgedAtTop, of_stray, of_stray_list, of_wrong, of_prn, of_ledger}
 use Rattle.clj_script.specs.Seen.{top_over}
 use Rattle.clj_script.specs.Sources.{Source, place_of}
-use Rattle.clj_script.specs.Tops.{so_far, number_of_top, lazy_bodies, IsWhole, HasCompiled, HasTaken, HasTakenAs, IsRefused}
+use Rattle.clj_script.specs.Tops.{so_far, lazy_bodies, IsWhole, HasCompiled, HasTaken, HasTakenAs, IsRefused}
+use Rattle.clj_script.specs.Numbered.{number_of_top}
 use Rattle.clj_script.specs.Trees.{Expr}
 use Rattle.clj_script.specs.Trees as tree
 use Rattle.clj_script.proofs.EntryLemmas.{map-one}
@@ -93,7 +94,7 @@ taken_prn old mid new s value n w c a = record {
 pub taken_stray_list : (old mid new : Tops) (s t : Source) (n : ℕ) → IsWhole [] old → IsRefused old mid (refusal 10 (place_of s)) → HasCompiled mid new t n → t ≡ s → HasTakenAs old new s stray_list
 taken_stray_list old mid new s t n w r k e =
     let c : HasCompiled mid new s n = subst (λ (u : Source). HasCompiled mid new u n) e k in
-    let v : IsWhole [] mid = rw r (record { sound = record { lower = w.sound.lower; bodies = w.sound.bodies; values = w.sound.values }; idle = record { values = w.idle.values; tasks = w.idle.tasks }; scope = w.scope; lower = w.lower; functions = w.functions; tops = w.tops }) in
+    let v : IsWhole [] mid = rw r (record { sound = record { lower = w.sound.lower; written = w.sound.written; bodies = w.sound.bodies; values = w.sound.values }; idle = record { values = w.idle.values; tasks = w.idle.tasks }; scope = w.scope; lower = w.lower; functions = w.functions; tops = w.tops }) in
     let g : so_far mid ≡ so_far old = rw r refl in
     record {
       whole = whole_compiled [] mid new s n v c;
@@ -107,7 +108,7 @@ taken_stray_list old mid new s t n w r k e =
 -- a form that is only refused
 pub taken_refused : (old new : Tops) (s : Source) (r : TopReading) (q : ScriptRefusal) → IsWhole [] old → IsRefused old new q → JudgedAtTop (so_far old) s r (so_far old) (q ∷ []) → HasTakenAs old new s r
 taken_refused old new s r q w e j = record {
-  whole = rw e (record { sound = record { lower = w.sound.lower; bodies = w.sound.bodies; values = w.sound.values }; idle = record { values = w.idle.values; tasks = w.idle.tasks }; scope = w.scope; lower = w.lower; functions = w.functions; tops = w.tops });
+  whole = rw e (record { sound = record { lower = w.sound.lower; written = w.sound.written; bodies = w.sound.bodies; values = w.sound.values }; idle = record { values = w.idle.values; tasks = w.idle.tasks }; scope = w.scope; lower = w.lower; functions = w.functions; tops = w.tops });
   forms = more_same (rw e refl);
   refusals = q ∷ [];
   least = rw e refl;

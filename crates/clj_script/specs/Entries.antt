@@ -8,7 +8,7 @@ use Rattle.clj_reader.specs.declared.place.Place.{Place}
 use Rattle.clj_script.specs.Trees.{nil_literal}
 use Rattle.clj_script.specs.Arena.{at, AllBelow, trees_behind, LowerFrom}
 use Rattle.clj_script.specs.Sources.{Source, atom, symbol, round, square, sources}
-use Rattle.clj_script.specs.Literals.{literal_of}
+use Rattle.clj_script.specs.Literals.{literal_of_atom}
 
 -- what a number stands for that no form has
 abbrev pub no_form : Source
@@ -16,7 +16,7 @@ no_form = atom (record { line = 1; column = 1 }) nil_literal
 
 -- a form at a place over the forms before it
 abbrev pub form_with : List Source → Place → Content → Source
-form_with forms place (content.Literal value) = atom place (literal_of value)
+form_with forms place (content.Literal literal) = atom place (literal_of_atom literal)
 form_with forms place (content.Symbol name) = symbol place name.items
 form_with forms place (content.List items) = round place (sources (map (at no_form forms) items.items))
 form_with forms place (content.Vector items) = square place (sources (map (at no_form forms) items.items))
@@ -26,7 +26,7 @@ form_over forms e = form_with forms e.place e.content
 
 -- the forms of which content is made
 abbrev pub parts_of_content : Content → List ℕ
-parts_of_content (content.Literal value) = []
+parts_of_content (content.Literal literal) = []
 parts_of_content (content.Symbol name) = []
 parts_of_content (content.List items) = items.items
 parts_of_content (content.Vector items) = items.items

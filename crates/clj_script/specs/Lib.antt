@@ -9,10 +9,12 @@ pub mod Names
 pub mod Readings
 pub mod Judgements
 pub mod Scripts
+pub mod Closed
 pub mod Literals
 pub mod Arena
 pub mod Entries
 pub mod Nodes
+pub mod Numbered
 pub mod Seen
 pub mod Reads
 pub mod Machines

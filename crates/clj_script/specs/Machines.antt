@@ -19,7 +19,7 @@ use Rattle.clj_script.specs.Locals.{all_but_last}
 use Rattle.clj_script.specs.Readings.{Reading, reading, nothing, refused, stands_for, call, let_of, if_of, and_of, or_of, lazy_seq}
 use Rattle.clj_script.specs.Judgements.{Judged, nil_expr}
 use Rattle.clj_script.specs.Arena.{AllBelow, LowerFrom}
-use Rattle.clj_script.specs.Nodes.{at, trees_of, parts_of}
+use Rattle.clj_script.specs.Nodes.{at, trees_of, parts_of, are_writable}
 use Rattle.clj_script.specs.Entries.{IsLower, form_at}
 
 -- What is to be done.
@@ -242,9 +242,10 @@ trees m = trees_of m.nodes.items
 abbrev pub now_of : Machine → Now
 now_of m = record { locals = m.locals; bodies = map (at (trees m)) m.bodies.items; values = map (at (trees m)) m.values.items; least = m.least.found }
 
--- expressions name lower ones, and all numbers of expressions are below their count
+-- expressions name lower ones, their literals are values that a script can write, and all numbers of expressions are below their count
 pub record IsSound (m : Machine) : Type 0 where
   pub lower : LowerFrom parts_of 0 m.nodes.items
+  pub written : are_writable m.nodes.items ≡ true
   pub bodies : AllBelow (length m.nodes.items) m.bodies.items
   pub values : AllBelow (length m.nodes.items) m.values.items
 

@@ -1,9 +1,9 @@
 -- The trees of numbered expressions, and the program that contracts see.
-use Rattle.std.specs.Prelude.{ℕ, List, [], ◌∷◌, map}
+use Rattle.std.specs.Prelude.{ℕ, Bool, true, List, [], ◌∷◌, map, ◌&&◌}
 use Rattle.clj_script.specs.declared.expr.Expr.{Expr}
 use Rattle.clj_script.specs.declared.expr.Expr.TheVariants as node
 use Rattle.clj_script.specs.Arena as arena
-use Rattle.clj_script.specs.Literals.{literal_of}
+use Rattle.clj_script.specs.Literals.{literal_of, is_written}
 use Rattle.clj_script.specs.Trees as tree
 
 -- the tree with a number
@@ -42,6 +42,16 @@ parts_of (node.If test a b) = test ∷ a ∷ b ∷ []
 parts_of (node.And items) = items
 parts_of (node.Or items) = items
 parts_of (node.LazySeq body) = []
+
+-- whether a literal is a value that a script can write
+abbrev pub is_writable : Expr → Bool
+is_writable (node.Literal value) = is_written value
+is_writable _ = true
+
+-- whether each literal is
+abbrev pub are_writable : List Expr → Bool
+are_writable [] = true
+are_writable (e ∷ es) = is_writable e && are_writable es
 
 -- the trees of all expressions
 unfoldable pub trees_of : List Expr → List tree.Expr

@@ -87,7 +87,7 @@ top_reading (symbol p name) = stray
 top_reading (square p items) = stray
 
 -- What the forms so far have given: the bodies of each function, each with its number of parameters, the bodies of the
--- `lazy-seq`s, the defined names and the forms that aren't refused.
+-- `lazy-seq`s, the defined names and the forms.
 pub record SoFar : Type 0 where
   pub functions : List (List (ℕ × Expr))
   pub bodies : List Expr
@@ -106,15 +106,16 @@ with_top t so = record { functions = so.functions; bodies = so.bodies; definitio
 abbrev pub with_function : List (ℕ × Expr) → SoFar → SoFar
 with_function f so = record { functions = so.functions ++ f ∷ []; bodies = so.bodies; definitions = so.definitions; tops = so.tops }
 
--- whether a name can be defined: it isn't defined or built in, isn't reserved and has no `/`
+-- Whether a name is new: neither defined nor built in. A new name that may not be bound is refused, and defined all the same, as a
+-- parameter or a binding is bound all the same.
 abbrev pub is_new : Definitions → List ℕ → Bool
-is_new definitions name = if is_taken definitions name then false else (if is_unfit name then false else true)
+is_new definitions name = if is_taken definitions name then false else true
 
 -- what is refused of a name that is defined, the lowest number at its place
 abbrev pub name_refusals : Definitions → Source → List ScriptRefusal
 name_refusals definitions s = if is_taken definitions (name_of s) then refusal 8 (place_of s) ∷ [] else refused_if (is_unfit (name_of s)) 10 s
 
--- the definitions with one more, where it can be defined
+-- the definitions with one more, where its name is new
 abbrev pub with_definition : List ℕ → Meaning → Definitions → Definitions
 with_definition name m definitions = if is_new definitions name then definitions ++ (name, m) ∷ [] else definitions
 
@@ -174,7 +175,7 @@ mutual
     of_threading : {so so' : SoFar} {s t : Source} {steps rs : List ScriptRefusal} → JudgedTop so t so' rs → JudgedAtTop so s (stands_for t steps) so' (steps ++ rs)
     -- the name is known from the next form on
     of_def : {so : SoFar} {s name value : Source} {e : Expr} {b : List Expr} {rs : List ScriptRefusal} → Judged so.definitions [] so.bodies value e b rs → JudgedAtTop so s (def_of name value) (after_def (name_of name) e (with_bodies b so)) (rs ++ name_refusals so.definitions name)
-    -- the name is known in its own bodies
+    -- the name is known in its own bodies, also where it may not be bound
     of_defn : {so : SoFar} {s name : Source} {cs : List Clause} {fs : List (ℕ × Expr)} {b : List Expr} {rs : List ScriptRefusal} → JudgedClauses (with_own name so).definitions [] so.bodies cs fs b rs → JudgedAtTop so s (defn_of name cs) (after_defn (is_new so.definitions (name_of name)) fs (with_bodies b (with_own name so))) (name_refusals so.definitions name ++ rs)
     of_prn : {so : SoFar} {s value : Source} {e : Expr} {b : List Expr} {rs : List ScriptRefusal} → Judged so.definitions [] so.bodies value e b rs → JudgedAtTop so s (prn_of value) (with_top (tree.prn e) (with_bodies b so)) rs
     of_ledger : {so : SoFar} {s : Source} → JudgedAtTop so s ledger_of (with_top tree.ledger so) []

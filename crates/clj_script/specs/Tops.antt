@@ -16,6 +16,7 @@ use Rattle.clj_script.specs.declared.definitions.Meaning.{Meaning}
 use Rattle.clj_script.specs.Entries.{IsLower, IsAdded}
 use Rattle.clj_script.specs.Names.{defined}
 use Rattle.clj_script.specs.Nodes.{at}
+use Rattle.clj_script.specs.Numbered.{numbers_of_bodies, AreBodiesBelow, AreTopsBelow}
 use Rattle.clj_script.specs.Refusals.{refusal, earlier, earliest}
 use Rattle.clj_script.specs.Seen.{top_over, body_over}
 use Rattle.clj_script.specs.Sources.{Source}
@@ -35,24 +36,6 @@ so_far t = record {
   definitions = defined t.definitions.entries;
   tops = map (top_over (trees t.machine)) t.tops.items;
 }
-
--- the expressions that bodies and forms name
-abbrev pub numbers_of_bodies : List Body → List ℕ
-numbers_of_bodies bodies = map (λ b. b.expr) bodies
-
-abbrev pub AreBodiesBelow : {F : Type 0} → ℕ → (F → List Body) → List F → Type 0
-AreBodiesBelow bound bodies_of [] = Unit {0}
-AreBodiesBelow bound bodies_of (f ∷ fs) = AllBelow bound (numbers_of_bodies (bodies_of f)) × AreBodiesBelow bound bodies_of fs
-
-abbrev pub number_of_top : Top → List ℕ
-number_of_top (Def name expr) = expr ∷ []
-number_of_top Defn = []
-number_of_top (Prn expr) = expr ∷ []
-number_of_top Ledger = []
-
-abbrev pub AreTopsBelow : ℕ → List Top → Type 0
-AreTopsBelow bound [] = Unit {0}
-AreTopsBelow bound (t ∷ ts) = AllBelow bound (number_of_top t) × AreTopsBelow bound ts
 
 -- the bodies of `lazy-seq`s, as trees
 abbrev pub lazy_bodies : Machine → List Expr

@@ -2,6 +2,7 @@
 ghost use Rattle.std.specs.Prelude.{◌≡◌, [], IfOk, Ok, Err, Some, None};
 ghost use Rattle.clj_script.specs.declared.refusal.ScriptRefusal.{ScriptRefusal};
 ghost use Rattle.clj_script.specs.declared.refusal.CompileStop.TheVariants.{Refused};
+ghost use Rattle.clj_script.specs.Closed.{IsClosedProgram};
 ghost use Rattle.clj_script.specs.Scripts.{Means, program_of};
 ghost use Rattle.clj_script.specs.Seen.{seen, IsRefusal, Gives};
 ghost use Rattle.clj_script.specs.Tops.{so_far, IsWhole};
@@ -21,6 +22,8 @@ use std::alloc::{AllocError, Global};
 pub fn compile(alloc: Global, forms: &Forms) -> Result<Program, CompileStop>
     // What is compiled is the program of these forms.
     ensures found { IfOk result (λ program. Means forms.now (seen program) []) }
+    // All that the program names is there: each form names only what the forms before it define.
+    ensures closed { IfOk result (λ program. IsClosedProgram (seen program)) }
     // Forms that mean a program are compiled to it, unless memory runs out.
     ensures only { (program : tree.Program) → Means forms.now program [] → Gives result (Ok program) }
     // What is refused has this refusal.

@@ -1,9 +1,9 @@
 //! The names that a script defines.
-ghost use Rattle.std.specs.Prelude.{◌≡◌, [], ◌∷◌, ◌++◌, length, not, None, IfOk};
+ghost use Rattle.std.specs.Prelude.{◌≡◌, [], ◌∷◌, ◌++◌, length, not, true, None, IfOk};
 ghost use Rattle.clj_script.specs.Words.{spelled};
 ghost use Rattle.clj_script.specs.Scopes as scope;
 ghost use Rattle.clj_script.specs.Names.{defined, Stands};
-ghost use Rattle.clj_script.specs.Nodes.{parts_of};
+ghost use Rattle.clj_script.specs.Nodes.{parts_of, is_writable};
 
 use crate::expr::Expr;
 use crate::locals::{Locals, number_of};
@@ -29,6 +29,7 @@ pub(crate) type Definitions = IndexMap<Vec<u8>, Meaning>;
 pub(crate) fn named(name: &[u8], locals: &Locals, definitions: &Definitions) -> Result<Expr, u8>
     ensures stands { Stands result (scope.named (defined definitions.now.entries) locals.now name.now) }
     ensures alone { IfOk result (λ expr. parts_of expr ≡ []) }
+    ensures written { IfOk result (λ expr. is_writable expr ≡ true) }
 {
     if reserved_word(name).is_some() {
         return Err(10);

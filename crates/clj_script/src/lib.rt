@@ -1,6 +1,7 @@
 //! From the forms of a script to its program.
 #![tactic(auto)]
 
+mod atom;
 mod compiler;
 mod definitions;
 mod expr;
@@ -20,9 +21,9 @@ mod words;
 
 pub use compiler::compile;
 pub use expr::{Expr, Numbers};
-pub use laws::one_meaning;
+pub use laws::{
+    closed_later, meaning_is_closed, one_meaning, refused_or_meant, some_meaning,
+    written_is_well_formed,
+};
 pub use program::{Program, Top};
 pub use refusal::{CompileStop, ScriptRefusal};
-
-#[cfg(test)]
-mod tests;

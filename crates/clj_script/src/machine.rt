@@ -3,7 +3,7 @@ ghost use Rattle.std.specs.Prelude.{List, Some, None, ◌≡◌, ◌+◌, ◌≤
 ghost use Rattle.std.specs.List.{list_any};
 ghost use Rattle.std.specs.Str.{bytes_eq};
 ghost use Rattle.clj_script.specs.Arena.{AllBelow};
-ghost use Rattle.clj_script.specs.Nodes.{tree_over, parts_of};
+ghost use Rattle.clj_script.specs.Nodes.{tree_over, parts_of, is_writable};
 ghost use Rattle.clj_script.specs.Entries.{IsLower, form_at};
 ghost use Rattle.clj_script.specs.Judgements.{nil_expr};
 ghost use Rattle.clj_script.specs.Readings as spec;
@@ -26,7 +26,6 @@ use crate::task::{Build, Task, push_all, push_call, push_if, push_let, push_one}
 use crate::thread::{Way, written_out};
 use clj_reader::Place;
 use seq_values::{Node, Value};
-use seq_vector::{NoMemory, Share};
 use std::alloc::{AllocError, Global};
 
 /// The expressions that were compiled so far, and what is being compiled.
@@ -126,8 +125,8 @@ impl Machine {
         let entry = entry_at(sources.as_slice(), form);
         let place = entry.place;
         match &entry.content {
-            Content::Literal(value) => {
-                let value = shared(value)?;
+            Content::Literal(atom) => {
+                let value = atom.value()?;
                 self.give(Expr::Literal(value))
             }
             Content::Symbol(name) => self.look_at_name(definitions, name.as_slice(), place),
@@ -156,6 +155,7 @@ impl Machine {
     }
 
     /// Looks at a list.
+    #[tactic(auto, using(crate::proofs::LiteralLemmas::empty_written))]
     fn look_at_list(
         &mut self,
         alloc: Global,
@@ -209,6 +209,7 @@ impl Machine {
     }
 
     /// Refuses a form whole, for which stands nil.
+    #[tactic(auto, using(crate::proofs::LiteralLemmas::nil_written))]
     fn refuse_whole(&mut self, number: u8, place: Place) -> Result<(), AllocError>
         requires sound { IsSound self.old }
         ensures { OnOk result (HasAnswered self.old self.new (gives nil_expr (refusal number place ∷ []))) }
@@ -221,6 +222,7 @@ impl Machine {
     fn give(&mut self, expr: Expr) -> Result<(), AllocError>
         requires sound { IsSound self.old }
         requires below { AllBelow (length self.old.nodes.items) (parts_of expr) }
+        requires written { is_writable expr ≡ true }
         ensures { OnOk result (HasGiven self.old self.new (tree_over (trees self.old) expr)) }
     {
         let number = number_of(self.nodes.len())?;
@@ -272,6 +274,7 @@ impl Machine {
     }
 
     /// Builds an expression of the last values.
+    #[tactic(auto, using(crate::proofs::LiteralLemmas::nil_written))]
     fn build(&mut self, build: Build) -> Result<(), AllocError>
         requires sound { IsSound self.old }
         requires enough { taking build ≤ length self.old.values.items }
@@ -431,14 +434,4 @@ fn reading_at<'a>(
         unreachable!();
     };
     read(alloc, sources, items)
-}
-
-/// A value for one more owner.
-fn shared(value: &Value) -> Result<Value, AllocError>
-    ensures { IfOk result (λ copy. copy ≡ value.now) }
-{
-    match value.share() {
-        Ok(value) => Ok(value),
-        Err(NoMemory) => Err(AllocError),
-    }
 }

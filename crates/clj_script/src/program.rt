@@ -1,6 +1,7 @@
-ghost use Rattle.std.specs.Prelude.{◌≡◌, length};
-ghost use Rattle.clj_script.specs.Arena.{LowerFrom, LowerFrom-prop};
-ghost use Rattle.clj_script.specs.Nodes.{parts_of};
+ghost use Rattle.std.specs.Prelude.{◌≡◌, length, true};
+ghost use Rattle.clj_script.specs.Arena.{AllBelow, AllBelow-prop, LowerFrom, LowerFrom-prop};
+ghost use Rattle.clj_script.specs.Nodes.{parts_of, are_writable};
+ghost use Rattle.clj_script.specs.Numbered.{AreBodiesBelow, AreBodiesBelow-prop, AreTopsBelow, AreTopsBelow-prop};
 
 use crate::definitions::Definitions;
 use crate::expr::Expr;
@@ -39,6 +40,12 @@ pub(crate) struct Parts {
     pub(crate) count: u32,
     // Each expression names only expressions of lower numbers.
     ghost lower: { LowerFrom parts_of 0 nodes.items } by { LowerFrom-prop parts_of 0 nodes.items },
+    // Each literal is a value that a script can write.
+    ghost written: { are_writable nodes.items ≡ true },
+    // The expressions that functions, `lazy-seq`s and forms name are there.
+    ghost in_functions: { AreBodiesBelow (length nodes.items) (λ bodies. bodies.items) functions.items } by { AreBodiesBelow-prop (length nodes.items) (λ bodies. bodies.items) functions.items },
+    ghost in_bodies: { AllBelow (length nodes.items) bodies.items } by { AllBelow-prop (length nodes.items) bodies.items },
+    ghost in_tops: { AreTopsBelow (length nodes.items) tops.items } by { AreTopsBelow-prop (length nodes.items) tops.items },
     ghost counted: { count ≡ length tops.items },
 }
 

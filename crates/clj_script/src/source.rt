@@ -5,8 +5,9 @@ ghost use Rattle.clj_script.specs.Arena.{AllBelow};
 ghost use Rattle.clj_script.specs.Entries.{parts_of, form_over, forms_of, form_at, AreItems, IsLower, AreAdded, IsAdded, IsContent};
 ghost use Rattle.clj_script.specs.Sources.{source_of, source_of_shape, sources_of, place_of, spelling, in_round, in_square, is_text_source};
 
+use crate::atom::Atom;
 use clj_reader::{Form, Forms, Place, Shape};
-use seq_values::{Text, Value};
+use seq_values::Text;
 use std::alloc::{AllocError, Global};
 
 /// A form. It holds others by their numbers, which are lower than its own.
@@ -18,7 +19,7 @@ pub(crate) struct Entry {
 
 #[derive(Drop)]
 pub(crate) enum Content {
-    Literal(Value),
+    Literal(Atom),
     Symbol(Vec<u8>),
     List(Vec<usize>),
     Vector(Vec<usize>),
@@ -60,16 +61,16 @@ fn content_of(alloc: Global, sources: &mut Vec<Entry>, shape: &Shape) -> Result<
     ensures { IfOk result (λ c. IsContent sources.old.items sources.new.items c (source_of_shape shape.now)) }
 {
     match shape {
-        Shape::Nil => Ok(Content::Literal(Value::Nil)),
-        Shape::Bool(truth) => Ok(Content::Literal(Value::Bool(*truth))),
-        Shape::Int(number) => Ok(Content::Literal(Value::Int(*number))),
+        Shape::Nil => Ok(Content::Literal(Atom::Nil)),
+        Shape::Bool(truth) => Ok(Content::Literal(Atom::Bool(*truth))),
+        Shape::Int(number) => Ok(Content::Literal(Atom::Int(*number))),
         Shape::Text(name) => {
             let text = text(alloc, name.bytes())?;
-            Ok(Content::Literal(Value::Text(text)))
+            Ok(Content::Literal(Atom::Text(text)))
         }
         Shape::Keyword(name) => {
             let name = text(alloc, name.bytes())?;
-            Ok(Content::Literal(Value::Keyword(name)))
+            Ok(Content::Literal(Atom::Keyword(name)))
         }
         Shape::Symbol(name) => {
             let name = Vec::from_slice(alloc, name.bytes())?;
@@ -182,7 +183,7 @@ pub(crate) fn is_text(sources: &[Entry], number: usize) -> bool
     ensures { result ≡ is_text_source (form_at sources.now number) }
 {
     match &entry_at(sources, number).content {
-        Content::Literal(Value::Text(_)) => true,
+        Content::Literal(Atom::Text(_)) => true,
         _ => false,
     }
 }

@@ -187,7 +187,8 @@ impl Tops {
         Ok(())
     }
 
-    /// Defines a name, and gives its number. One that can't be defined is refused.
+    /// Defines a name, and gives its number. One that is taken is refused. One that may not be bound is refused, and defined all
+    /// the same.
     fn defined(
         &mut self,
         alloc: Global,
@@ -207,11 +208,11 @@ impl Tops {
             self.refuse(8, name);
             return Ok(None);
         }
-        if is_unfit(text) {
-            self.refuse(10, name);
-            return Ok(None);
-        }
+        let unfit = is_unfit(text);
         let number = define(alloc, &mut self.definitions, text, meaning)?;
+        if unfit {
+            self.refuse(10, name);
+        }
         Ok(Some(number))
     }
 

@@ -1,13 +1,11 @@
 ghost use Rattle.std.specs.Prelude.{◌≡◌, ◌↔◌, ◌<◌, ◌≤◌, ◌⊎◌, length, IfSome, OnOk};
 ghost use Rattle.std.specs.Io.KnownBytes.{Appends, IsAtEnd, Keeps};
 ghost use Rattle.seq_base.specs.Causes.{Rose};
-ghost use Rattle.cljseq.specs.Answers.{AppendsPart, Printed, PrintedPart, refusal_line};
+ghost use Rattle.seq_run.specs.Answers.{AppendsPart, Printed, PrintedPart, refusal_line};
 
-use crate::print::{print_refusal, print_sums};
-use crate::script::{Refusal, ScriptStop, read_script};
-use crate::status::Status;
 use clj_reader::Place;
 use seq_base::{ReadStop, Sink, Source, WriteStop, read_whole};
+use seq_run::{Refusal, ScriptStop, Status, print_refusal, print_sums, read_script};
 use std::alloc::Global;
 
 /// The most bytes that a script may have.
@@ -67,7 +65,7 @@ fn refuse<O: Sink>(alloc: Global, refusal: Refusal, out: &mut O) -> Status
 }
 
 /// Runs a script's text.
-#[tactic(auto, using(crate::proofs::AnswerLemmas::text_printed, crate::proofs::AnswerLemmas::refusal_printed, crate::proofs::AnswerLemmas::text_part, crate::proofs::AnswerLemmas::no_part))]
+#[tactic(auto, using(seq_run::proofs::AnswerLemmas::text_printed, seq_run::proofs::AnswerLemmas::refusal_printed, seq_run::proofs::AnswerLemmas::text_part, seq_run::proofs::AnswerLemmas::no_part))]
 fn run<O: Sink>(alloc: Global, text: &[u8], out: &mut O) -> Status
     ensures answered { (result ≡ Status.Done) ⊎ (result ≡ Status.ScriptRefused) → Printed text.now result (O.written out.old) (O.written out.new) }
     ensures part { PrintedPart text.now (O.written out.old) (O.written out.new) }

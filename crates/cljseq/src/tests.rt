@@ -1,9 +1,12 @@
 ghost use Rattle.std.specs.Prelude.{◌<◌};
 
 use crate::command::command;
-use crate::status::Status;
+use crate::words::{WordsStop, words_of};
 use seq_base::{MemorySink, MemorySource};
+use seq_run::Status;
 use std::alloc::Global;
+use std::env::FillError;
+use std::rt::Env;
 use std::test::Fail;
 
 /// What a script gives under the words after the program's name, by at most `step` bytes a call.
@@ -145,5 +148,61 @@ fn faults(rt: HostRuntime) -> Result<(), Fail> {
     let (ended, written) = answer(rt.alloc(), &[], refused, 4, (&[], &[3]))?;
     assert_eq!(rt; ended, Status::WriteFault);
     assert_eq!(rt; written.as_slice(), b"refused ".as_slice());
+    Ok(())
+}
+
+/// A command line in memory, and no environment.
+#[derive(Drop)]
+struct CommandLine<'a> {
+    words: &'a [&'a [u8]],
+}
+
+impl Env for CommandLine<'_> {
+    fn arg(&self, i: usize, buf: &mut [u8]) -> Result<usize, FillError> {
+        match self.words.get(i) {
+            Some(word) if word.len() <= buf.len() => {
+                buf[..word.len()].copy_from_slice(word);
+                Ok(word.len())
+            }
+            Some(_) => Err(FillError::TooLong),
+            None => Err(FillError::NotPresent),
+        }
+    }
+
+    fn var(&self, _name: &str, _buf: &mut [u8]) -> Result<usize, FillError> {
+        Err(FillError::NotPresent)
+    }
+
+    fn var_at(&self, _i: usize, _buf: &mut [u8]) -> Result<usize, FillError> {
+        Err(FillError::NotPresent)
+    }
+}
+
+/// The program's name isn't looked at, and each other word has to be text.
+#[test]
+fn words(rt: HostRuntime) -> Result<(), Fail> {
+    let rows: [(&[&[u8]], Result<&[&str], WordsStop>); 6] = [
+        (&[], Ok([""].as_slice())),
+        (&[b"cljseq"], Ok([""].as_slice())),
+        (&[b"\xff"], Ok([""].as_slice())),
+        (
+            &[b"\xff", b"--check", b""],
+            Ok(["", "--check", ""].as_slice()),
+        ),
+        (&[b"cljseq", b"\xff"], Err(WordsStop::NotText)),
+        (&[b"cljseq", b"--check", b"\xc3"], Err(WordsStop::NotText)),
+    ];
+    for (words, want) in rows {
+        match (words_of(&CommandLine { words }, rt.alloc()), want) {
+            (Ok(all), Ok(want)) => {
+                assert_eq!(rt; all.len(), want.len());
+                for (word, want) in all.iter().zip(want) {
+                    assert_eq!(rt; word.as_str(), *want);
+                }
+            }
+            (Err(stop), Err(want)) => assert_eq!(rt; stop, want),
+            _ => assert!(rt; false, "{}", words.len()),
+        }
+    }
     Ok(())
 }

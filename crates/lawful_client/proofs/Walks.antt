@@ -1,5 +1,6 @@
 -- How the two works of the script go on by themselves, between the calls.
-use Rattle.std.proofs.Common.{◌≡◌, ℕ, suc, List, [], true, false, length, Some, slice_get, refl, ap, sym, subst, ◌∙◌}
+use Rattle.std.proofs.Common.{◌≡◌, ℕ, suc, ◌<◌, List, [], true, false, length, Contains, arith, Some, slice_get, refl, ap, sym, subst, ◌∙◌}
+use Rattle.std.specs.Fmt.{digits}
 use Rattle.seq_values.specs.declared.words.Kind.TheVariants.{Lazy}
 use Rattle.seq_values.specs.declared.term.Term.{Term as CodedTerm}
 use Rattle.seq_values.specs.Model.{Term}
@@ -26,6 +27,7 @@ module _ (g : Glimpse) (w : Duty) where
   form_asks c r = on_walked table one_map steps g w 6 5 (form_calls c) (form_waits c) r (sought (entered r.trail) refl)
 
   pub form_ends : (d : ℕ) → OnRun table one_map steps g w 4 (seq (one_before d) prints_first) → OnRun table one_map steps g w 3 form_gives
+  unfolding digits
   form_ends d r = on_walked table one_map steps g w 4 3 (seq (one_before d) prints_first) form_gives r (visited (looped (at_once r.trail refl)))
 
   pub part_starts : OnRun table one_map steps g w 8 (term_plan (script_in table one_map steps w.outcomes) whole_map) → OnRun table one_map steps g w 7 part_makes
@@ -54,3 +56,6 @@ new_good a cells new law = λ b e. subst IsGood (sym (e ∙ new)) (new_lawful (l
 
 pub new_book : (a : Account) (cells : ℕ) → a ≡ record { limit = cells; cells = []; forms = []; spent = false; gave_up = false } → IsNew (λ b. b ≡ a) (glimpse a)
 new_book a cells new = record { book = a; known = refl; no_forms = ap (λ (x : Account). x.forms) new; unspent = ap (λ (x : Account). x.spent) new; none_seen = ap (λ (x : Account). begun_in x.forms) new }
+
+pub none_in : (xs : List ℕ) (x : ℕ) → xs ≡ [] → ¬ (Contains xs x)
+none_in xs x e (k, l, s) = let n : length xs ≡ 0 = ap length e in absurd (omega arith)

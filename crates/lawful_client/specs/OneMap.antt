@@ -6,10 +6,10 @@ use Rattle.seq_values.specs.declared.words.Kind.TheVariants.{Lazy}
 use Rattle.seq_values.specs.declared.words.Op.TheVariants as O
 use Rattle.seq_values.specs.declared.words.Target.TheVariants.{Builtin}
 use Rattle.seq_values.specs.declared.term.Term.{Term as CodedTerm}
-use Rattle.seq_values.specs.Model.{Value, int, text, function, cell, empty, chunk, range, no_values, ◌&◌, Term}
+use Rattle.seq_values.specs.Model.{Value, nil, int, text, function, cell, empty, chunk, range, no_values, ◌&◌, Term}
 use Rattle.seq_values.specs.Plain.{plain_term}
 use Rattle.clj_script.specs.Trees.{int_literal, literal, word, call_of, exprs, Top, prn, Program}
-use Rattle.seq_plan.specs.Plan.{Plan, ask, seq, call, make, give, Rules}
+use Rattle.seq_plan.specs.Plan.{Plan, ask, seq, call, make, give, then, Rules}
 use Rattle.seq_plan.specs.Nodes.{first_of, if_nil}
 use Rattle.seq_meaning.specs.Prints.{print_rule}
 use Rattle.cell_book.specs.declared.cell.Cell.{Cell}
@@ -53,7 +53,7 @@ rest_map = map_of empty
 
 -- the form's plans: it makes the part, asks it, and gives the text of the first element
 abbrev pub prints_first : Value ℕ → Plan ℕ
-prints_first s = if_nil s (print_rule s) (print_rule (first_of s))
+prints_first s = then (if_nil s (give nil) (give (first_of s))) print_rule
 
 abbrev pub form_calls : ℕ → Plan ℕ
 form_calls c = call (function (Builtin B.First) no_values) (cell c ∷ []) print_rule

@@ -23,7 +23,12 @@ pub fn begin<C: Cells>(cells: &mut C, form: u32) -> Result<Work, NoMemory>
 }
 
 /// Makes a part.
-pub fn add<C: Cells>(cells: &mut C, by: &Work, term: Term, kind: Kind) -> Result<CellId, MakeRefusal>
+pub fn add<C: Cells>(
+    cells: &mut C,
+    by: &Work,
+    term: Term,
+    kind: Kind,
+) -> Result<CellId, MakeRefusal>
     requires ready { C.ready cells.old }
     requires own { Owns (C.held cells.old) (C.seen cells.old) by.now }
     requires run { MakesNext (C.alone cells.old) (C.law cells.old) (C.noted cells.old) (C.seen cells.old) by.now kind (plain_term term) }

@@ -1,16 +1,16 @@
 //! The script of one `map`, step by step: `(prn (first (map inc (range 1))))`. The form makes a part and asks it; the part makes the one for
 //! the rest and gives a chunk; the form gives the text of the first element. Each call asks for nothing but that its step keeps the law of the book.
-ghost use Rattle.std.specs.Prelude.{◌≡◌, ◌≢◌, ℕ, true, pos, codes, IfOk};
+ghost use Rattle.std.specs.Prelude.{◌≡◌, ◌≢◌, ℕ, true, codes, IfOk, IfErr};
 ghost use Rattle.seq_values.specs.Plain.{plain, plain_term};
 ghost use Rattle.seq_values.specs.Model.{text};
-ghost use Rattle.seq_plan.specs.Plan.{give};
 ghost use Rattle.cell_book.specs.Account.{Duty};
+ghost use Rattle.cell_book.specs.Glimpses.{Owns};
 ghost use Rattle.lawful_client.specs.OneMap.{KeepsGood, IsNew, RunsTo, HasTerm, AskedBy, whole_map, rest_map, one_before, form_makes, form_waits, form_gives, part_makes, part_gives};
 
 use cell_book::{Cells, ClaimRefusal, MakeRefusal, Work};
 use seq_values::{
-    Builtin, CellId, Kind, Node, Op, Term, Text, Value, chunk_before, empty_list, integer, one_item,
-    part, term_of_two, word_value,
+    Builtin, CellId, Kind, Node, Op, Term, Text, Value, chunk_before, empty_list, integer,
+    one_item, part, term_of_two, word_value,
 };
 use seq_vector::NoMemory;
 use std::alloc::Global;
@@ -36,6 +36,7 @@ fn make_whole<C: Cells>(cells: &mut C, form: &Work, term: Term) -> Result<CellId
     requires term { plain_term term ≡ whole_map }
     ensures run { IfOk result (λ id. RunsTo (C.held cells.new) (C.seen cells.new) form.now 5 (form_waits id)) }
     ensures part { IfOk result (λ id. HasTerm (C.seen cells.new) id whole_map) }
+    ensures kept { Owns (C.held cells.new) (C.seen cells.new) form.now }
     ensures law { KeepsGood (C.alone cells.new) (C.law cells.new) (C.noted cells.new) }
     ensures same { C.same cells.old cells.new }
 {
@@ -50,6 +51,7 @@ fn claim_whole<C: Cells>(cells: &mut C, form: &Work, id: CellId) -> Result<Work,
     requires part { HasTerm (C.seen cells.old) id whole_map }
     ensures form { IfOk result (λ w. RunsTo (C.held cells.new) (C.seen cells.new) form.now 5 (form_waits id)) }
     ensures run { IfOk result (λ w. RunsTo (C.held cells.new) (C.seen cells.new) w 7 part_makes) }
+    ensures kept { IfErr result (λ _. Owns (C.held cells.new) (C.seen cells.new) form.now) }
     ensures asked { IfOk result (λ w. AskedBy (C.seen cells.new) form.now w id) }
     ensures law { KeepsGood (C.alone cells.new) (C.law cells.new) (C.noted cells.new) }
     ensures same { C.same cells.old cells.new }
@@ -64,6 +66,7 @@ fn make_rest<C: Cells>(cells: &mut C, work: &Work, term: Term) -> Result<CellId,
     requires run { RunsTo (C.held cells.old) (C.seen cells.old) work.now 7 part_makes }
     requires term { plain_term term ≡ rest_map }
     ensures run { IfOk result (λ id. RunsTo (C.held cells.new) (C.seen cells.new) work.now 7 (part_gives id)) }
+    ensures kept { (w : Duty) → Owns (C.held cells.old) (C.seen cells.old) w → Owns (C.held cells.new) (C.seen cells.new) w }
     ensures form { (form : Duty) (id : ℕ) → RunsTo (C.held cells.old) (C.seen cells.old) form 5 (form_waits id) → AskedBy (C.seen cells.old) form work.now id → RunsTo (C.held cells.new) (C.seen cells.new) form 5 (form_waits id) × AskedBy (C.seen cells.new) form work.now id }
     ensures law { KeepsGood (C.alone cells.new) (C.law cells.new) (C.noted cells.new) }
     ensures same { C.same cells.old cells.new }
@@ -130,7 +133,116 @@ fn line_of_one(alloc: Global) -> Result<Value, NoMemory>
     Ok(Value::Text(Text::of(alloc, b"1")?))
 }
 
-/// Runs the script on a book in which nothing was begun. It tells whether the form came to its end; want of memory and the limit of cells end it
+/// Gives a work up, wherever its run is.
+fn quit<C: Cells>(cells: &mut C, work: Work)
+    requires ready { C.ready cells.old }
+    requires law { KeepsGood (C.alone cells.old) (C.law cells.old) (C.noted cells.old) }
+    requires own { Owns (C.held cells.old) (C.seen cells.old) work }
+    ensures others { (w : Duty) → w.claim ≢ work.claim → Owns (C.held cells.old) (C.seen cells.old) w → Owns (C.held cells.new) (C.seen cells.new) w }
+    ensures law { KeepsGood (C.alone cells.new) (C.law cells.new) (C.noted cells.new) }
+    ensures same { C.same cells.old cells.new }
+{
+    cells.give_up(work);
+}
+
+/// Gives up the part's work and then the form's.
+fn quit_both<C: Cells>(cells: &mut C, form: Work, work: Work) -> bool
+    requires ready { C.ready cells.old }
+    requires law { KeepsGood (C.alone cells.old) (C.law cells.old) (C.noted cells.old) }
+    requires own { Owns (C.held cells.old) (C.seen cells.old) work }
+    requires form { Owns (C.held cells.old) (C.seen cells.old) form }
+    requires apart { form.claim ≢ work.claim }
+    ensures law { KeepsGood (C.alone cells.new) (C.law cells.new) (C.noted cells.new) }
+    ensures same { C.same cells.old cells.new }
+{
+    quit(cells, work);
+    quit(cells, form);
+    false
+}
+
+/// The part gives its chunk, and the form its line.
+fn end_both<C: Cells>(
+    cells: &mut C,
+    alloc: Global,
+    form: Work,
+    work: Work,
+    id: CellId,
+    rest: CellId,
+    line: Value,
+) -> bool
+    requires ready { C.ready cells.old }
+    requires law { KeepsGood (C.alone cells.old) (C.law cells.old) (C.noted cells.old) }
+    requires form { RunsTo (C.held cells.old) (C.seen cells.old) form 5 (form_waits id) }
+    requires asked { AskedBy (C.seen cells.old) form work id }
+    requires run { RunsTo (C.held cells.old) (C.seen cells.old) work 7 (part_gives rest) }
+    requires line { plain line ≡ text (codes "1") }
+    ensures law { KeepsGood (C.alone cells.new) (C.law cells.new) (C.noted cells.new) }
+    ensures same { C.same cells.old cells.new }
+{
+    match one_and(alloc, rest) {
+        Ok(value) => {
+            finish_whole(cells, work, value, rest);
+            finish_form(cells, form, line);
+            true
+        }
+        Err(_) => quit_both(cells, form, work),
+    }
+}
+
+/// The part makes the one for its rest, and both works end.
+fn run_part<C: Cells>(
+    cells: &mut C,
+    alloc: Global,
+    form: Work,
+    work: Work,
+    id: CellId,
+    later: Term,
+    line: Value,
+) -> bool
+    requires ready { C.ready cells.old }
+    requires law { KeepsGood (C.alone cells.old) (C.law cells.old) (C.noted cells.old) }
+    requires form { RunsTo (C.held cells.old) (C.seen cells.old) form 5 (form_waits id) }
+    requires asked { AskedBy (C.seen cells.old) form work id }
+    requires run { RunsTo (C.held cells.old) (C.seen cells.old) work 7 part_makes }
+    requires later { plain_term later ≡ rest_map }
+    requires line { plain line ≡ text (codes "1") }
+    ensures law { KeepsGood (C.alone cells.new) (C.law cells.new) (C.noted cells.new) }
+    ensures same { C.same cells.old cells.new }
+{
+    match make_rest(cells, &work, later) {
+        Ok(rest) => end_both(cells, alloc, form, work, id, rest, line),
+        Err(_) => quit_both(cells, form, work),
+    }
+}
+
+/// The form asks for the part that it made, and both works end.
+fn run_form<C: Cells>(
+    cells: &mut C,
+    alloc: Global,
+    form: Work,
+    id: CellId,
+    later: Term,
+    line: Value,
+) -> bool
+    requires ready { C.ready cells.old }
+    requires law { KeepsGood (C.alone cells.old) (C.law cells.old) (C.noted cells.old) }
+    requires run { RunsTo (C.held cells.old) (C.seen cells.old) form 5 (form_waits id) }
+    requires part { HasTerm (C.seen cells.old) id whole_map }
+    requires later { plain_term later ≡ rest_map }
+    requires line { plain line ≡ text (codes "1") }
+    ensures law { KeepsGood (C.alone cells.new) (C.law cells.new) (C.noted cells.new) }
+    ensures same { C.same cells.old cells.new }
+{
+    match claim_whole(cells, &form, id) {
+        Ok(work) => run_part(cells, alloc, form, work, id, later, line),
+        Err(_) => {
+            quit(cells, form);
+            false
+        }
+    }
+}
+
+/// Runs the script on a book in which nothing was begun. It tells whether the form came to its end: want of memory and the limit of cells end it
 /// before.
 pub fn run_one_map<C: Cells>(cells: &mut C, alloc: Global) -> bool
     requires ready { C.ready cells.old }
@@ -140,26 +252,23 @@ pub fn run_one_map<C: Cells>(cells: &mut C, alloc: Global) -> bool
     ensures law { KeepsGood (C.alone cells.new) (C.law cells.new) (C.noted cells.new) }
     ensures same { C.same cells.old cells.new }
 {
-    let (Ok(whole), Ok(later), Ok(line)) = (whole_term(alloc), rest_term(alloc), line_of_one(alloc))
-    else {
+    let Ok(whole) = whole_term(alloc) else {
+        return false;
+    };
+    let Ok(later) = rest_term(alloc) else {
+        return false;
+    };
+    let Ok(line) = line_of_one(alloc) else {
         return false;
     };
     let Ok(form) = begin_map(cells) else {
         return false;
     };
-    let Ok(id) = make_whole(cells, &form, whole) else {
-        return false;
-    };
-    let Ok(work) = claim_whole(cells, &form, id) else {
-        return false;
-    };
-    let Ok(rest) = make_rest(cells, &work, later) else {
-        return false;
-    };
-    let Ok(value) = one_and(alloc, rest) else {
-        return false;
-    };
-    finish_whole(cells, work, value, rest);
-    finish_form(cells, form, line);
-    true
+    match make_whole(cells, &form, whole) {
+        Ok(id) => run_form(cells, alloc, form, id, later, line),
+        Err(_) => {
+            quit(cells, form);
+            false
+        }
+    }
 }

@@ -15,11 +15,11 @@ use Rattle.cell_book.specs.declared.work.Place.TheVariants as P
 use Rattle.cell_book.specs.Account.{Account, Duty, cell_at, closed, made_by}
 use Rattle.cell_book.specs.Steps.{new_cell, claimed, Makes, Claims, Opens, Finishes}
 use Rattle.cell_book.specs.Glimpses.{Glimpse, glimpse, Onward, Answered, MadeOne, IsForced, Fits, Sees, SeesCell, SeesPlace}
-use Rattle.cell_book.proofs.Onwards.{onward_then, onward_made, onward_answered, onward_seen, made_seen, answered_seen, fits_onward}
-use Rattle.cell_book.proofs.Moves.{makes_own, makes_here, finishes_answered, ends_shown}
+use Rattle.cell_book.proofs.Onwards.{onward_then, onward_made, onward_asked, onward_answered, onward_seen, asked_seen, made_seen, answered_seen, fits_onward}
+use Rattle.cell_book.proofs.Moves.{makes_own, makes_here, claims_asked, finishes_answered, ends_shown}
 use Rattle.seq_meaning.specs.Trail.{Trail}
 use Rattle.seq_lawful.specs.Runs.{script_in, AnswerIn, in_value, MadeIn, OnRun}
-use Rattle.seq_lawful.proofs.OnRuns.{on_onward, on_made, on_ended, on_answer}
+use Rattle.seq_lawful.proofs.OnRuns.{on_onward, on_made, on_asked, on_ended, on_answer}
 use Rattle.seq_lawful.proofs.Stepping.{put_same}
 
 -- as many makes as numbers of cells
@@ -57,6 +57,10 @@ module _ (rules : Rules ℕ) (program : Program) (limit : ℕ) where
         place =
             let e : length (made_by w.claim a) ≡ length (map (λ x. x.0) r.mades) = ap length (until.made ∙ r.numbers) in
             let l = as_many (λ x. x.0) r.mades in omega arith
+
+    -- over a claim that it asked for
+    pub on_claims : (n c : ℕ) (p : Plan ℕ) (v : Duty) → OnRun rules program limit g w n p → Claims a c (Some w.claim) (Ok v) b → w.claim ≢ v.claim → OnRun rules program limit h w n p
+    on_claims n c p v r s apart = on_asked rules program limit g h w n c v.claim p r (asked_seen leads mine2 w.claim c v.claim g b h (onward_asked w.claim c v.claim g (glimpse a) (glimpse b) until (claims_asked a b c w.claim v s apart)) sees still)
 
     -- over the end of a part's work that it asked for: the value is its answer
     pub on_finished : (n c : ℕ) (k : Value ℕ → Plan ℕ) (v : Duty) (u : Coded) (kind : Kind) (t : CodedTerm) → OnRun rules program limit g w (suc n) (ask c k) → v.place ≡ P.Part c kind t → 0 < mine v.claim → w.claim ≢ v.claim → IsForced g c v.claim (Some w.claim) → Finishes a v u b → SeesPlace v.place b h → OnRun rules program limit h w n (k (plain u))

@@ -31,5 +31,6 @@ pub mod RestAnswers
 pub mod Sizes
 pub mod Counted
 pub mod Begun
+pub mod NextForm
 pub mod Grows
 pub mod Turned

@@ -83,9 +83,10 @@ module _ (rules : Rules Name) (program : Program) (limit : ℕ) (a : Account) (l
   value_ended (value_given_up q n) s = absurd (none-some _ (sym n ∙ s))
 
   pub form_gives : (k : ℕ) (f : Form) → slice_get a.forms k ≡ Some f → ((v : Coded) → f.value ≡ Some v → GivesSo rules program limit a own_name (form (suc k)) (gave (plain v))) × ((why : Thrown) → f.attempt.end ≡ E.Error why → Gives rules program limit (form (suc k)) (threw why))
-  form_gives k f at =
-      ((λ v s. ended_gives own_name (at_form k) f.attempt (gave (plain v)) (form (suc k)) (on_form at refl) (ended_form f (value_ended (law.values k f at) s) at s) (form_claim at)),
-       λ why s. threw_so (ended_gives own_name (at_form k) f.attempt (threw why) (form (suc k)) (on_form at refl) (ended_threw s) (form_claim at)))
+  form_gives k f at = (
+    (λ v s. ended_gives own_name (at_form k) f.attempt (gave (plain v)) (form (suc k)) (on_form at refl) (ended_form f (value_ended (law.values k f at) s) at s) (form_claim at)),
+    λ why s. threw_so (ended_gives own_name (at_form k) f.attempt (threw why) (form (suc k)) (on_form at refl) (ended_threw s) (form_claim at)),
+  )
 
   fits_at_rest : AtRest a → FormsFit rules program limit a.limit (length a.forms)
   fits_at_rest rest = λ xs d f. (let n : length xs ≤ length a.cells = at_most (made_size rules program limit a law rest) xs d f in let w = law.within in omega arith)

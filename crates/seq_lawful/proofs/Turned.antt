@@ -43,17 +43,17 @@ module _ (rules : Rules Name) (program : Program) (limit : ℕ) where
     where
       go : (x : Place) → Ends a (record w { place = x }) E.GivenUp (λ k. S.Empty) None b → ⊥
       go (P.Form number k) (at, eq) = unnoted_form a k number w.claim e at (subst Good eq law)
-      go (P.Part id kind term) (p, asker, past, at, open, eq) = unnoted_part a id w.claim p (after_claim p w.claim asker past E.GivenUp S.Empty) past (closed w.claim asker E.GivenUp) e at refl refl (subst Good eq law)
+      go (P.Part id kind term) (p, asker, past, at, has, eq) = unnoted_part a id w.claim p (after_claim p w.claim asker past E.GivenUp S.Empty) past (closed w.claim asker E.GivenUp) e at refl refl (subst Good eq law)
 
   -- only a future fails for good
   is_future : {kind : Kind} {xs : List Attempt} {s : State} {why : Thrown} → StateOf kind xs s → s ≡ S.Failed why → kind ≡ Future
   is_future (so_empty all) e = absurd cc
-  is_future (so_forcing past x is lost open) e = absurd cc
+  is_future (so_forcing past x is lost end) e = absurd cc
   is_future (so_done past x is lost end) e = absurd cc
   is_future (so_failed past x is lost future end) e = future
 
   pub stays_failed : (a b : Account) (id claim : ℕ) (p : Cell) (why : Thrown) → cell_at a id ≡ Some p → p.kind ≡ Lazy → EndsPart a id claim (E.Error why) (λ k. S.Failed why) b → ¬ (Good b)
-  stays_failed a b id claim p why at lazy (q, asker, past, there, open, eq) law =
+  stays_failed a b id claim p why at lazy (q, asker, past, there, has, eq) law =
       let same : p ≡ q = (let x = there in cc) in
       let r : Cell = after_claim q claim asker past (E.Error why) (S.Failed why) in
       let future : q.kind ≡ Future = is_future ((subst Good eq law).states id r (put_same a.cells id r q there)) refl in

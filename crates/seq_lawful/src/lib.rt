@@ -1,7 +1,7 @@
 //! What a lawful book is, and that each step of whoever runs works keeps it.
 #![tactic(auto)]
 
-ghost use Rattle.seq_lawful.specs.KeepingLaws.{LawKeeps, NewIsLawful};
+ghost use Rattle.seq_lawful.specs.KeepingLaws.{LawKeeps, NewIsLawful, NextBegins};
 ghost use Rattle.seq_lawful.specs.RestLaws.{Rests, OneOwnName, NamedAtRest, NamesAtRest, CountedAtRest, EndedGives, CellGives, GivesAtRest, FormGives, SpentIsOver};
 ghost use Rattle.seq_lawful.specs.Grows.{StepsGrow};
 ghost use Rattle.seq_lawful.specs.Turned.{TurnedSteps};
@@ -14,6 +14,11 @@ pub fn law_keeps()
 /// A new book is lawful.
 pub fn law_new_lawful()
     ensures { NewIsLawful }
+{}
+
+/// The next form may be begun where the last one is done and no make was refused.
+pub fn law_next_begins()
+    ensures { NextBegins }
 {}
 
 /// Where no claim is open, nothing was noted and no future is empty, a lawful book is at rest.

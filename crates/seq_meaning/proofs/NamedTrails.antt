@@ -1,14 +1,14 @@
 -- A trail in numbers under a name of its evaluation has true answers, whatever the other names of its cells are.
-use Rattle.std.proofs.Common.{◌≡◌, ℕ, zero, suc, List, [], ◌∷◌, length, Some, slice_get, refl, ap, sym, subst, ◌∙◌}
+use Rattle.std.proofs.Common.{◌≡◌, ℕ, zero, suc, List, length, Some, slice_get, refl, ap, sym, subst, ◌∙◌}
 use Rattle.seq_base.specs.declared.thrown.Thrown.{Thrown}
 use Rattle.seq_values.specs.declared.words.Kind.{Kind}
-use Rattle.seq_values.specs.Model.{Value, Term, Outcome, gave, threw}
+use Rattle.seq_values.specs.Model.{Value, Term, Outcome, threw}
 use Rattle.clj_script.specs.Trees.{Program}
 use Rattle.seq_plan.specs.Plan.{Plan, ask, make, give, throw, Rules}
 use Rattle.seq_plan.specs.Alike.{Likeness, by, LikePlan, like_ask, like_make, like_give, like_throw}
 use Rattle.seq_meaning.specs.Counts.{IsIn, here, there}
-use Rattle.seq_meaning.specs.Follows.{LikeAsked, no_asked, one_asked, LikeNamed, no_named, one_named, Follows}
-use Rattle.seq_meaning.specs.Gives.{work, Task, script_of, task_plan, run, Of, Part, part_of, Gives, gives}
+use Rattle.seq_meaning.specs.Follows.{LikeAsked, no_asked, one_asked, LikeNamed, no_named, one_named}
+use Rattle.seq_meaning.specs.Gives.{work, Task, script_of, task_plan, run, part_of, Gives, gives}
 use Rattle.seq_meaning.specs.Names.{Name, part}
 use Rattle.seq_meaning.specs.Renamed.{TrailUnder, GoesInNames, NeedsCell, needs_cell, GivesLike, gives_like, IsLikePart, is_like_part}
 use Rattle.seq_meaning.specs.Trail.{Trail, answers_of, Calls}

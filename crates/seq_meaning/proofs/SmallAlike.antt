@@ -1,5 +1,5 @@
 -- The small table looks at cells only to ask them.
-use Rattle.std.proofs.Common.{refl, ℤ, pos, ◌+ℤ◌, int_le, List, Option}
+use Rattle.std.proofs.Common.{refl, ℤ, pos, int_le, List, Option}
 use Rattle.seq_values.specs.declared.words.Builtin.{Builtin}
 use Rattle.seq_values.specs.declared.words.Builtin.TheVariants as B
 use Rattle.seq_values.specs.declared.words.Op.{Op}

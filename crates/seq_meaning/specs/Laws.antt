@@ -14,7 +14,7 @@ use Rattle.seq_plan.specs.Keeping.{KeepsRules}
 use Rattle.seq_meaning.specs.Evaluates.{Script}
 use Rattle.seq_meaning.specs.Walk.{Made, made, needs, ends, makes_of, walk}
 use Rattle.seq_meaning.specs.Names.{Name, part, retry}
-use Rattle.seq_meaning.specs.Gives.{Work, work, Task, of_term, in_order, script_of, task_plan, run, Of, Part, True, Gives, Before}
+use Rattle.seq_meaning.specs.Gives.{Work, work, Task, of_term, script_of, task_plan, run, Of, Part, True, Gives, Before}
 use Rattle.seq_meaning.specs.Alike.{LikeScript, LikeAnswers, LikeRun}
 use Rattle.seq_meaning.specs.Twins.{TwinEval, twin_cells, LikeWork, Renames}
 use Rattle.seq_meaning.specs.Counts.{IsIn}

@@ -98,6 +98,3 @@ pub fn law_then_enters()
 pub fn law_then_completes()
     ensures { ThenCompletes }
 {}
-
-#[cfg(test)]
-mod tests;

@@ -1,9 +1,9 @@
 -- One answer, where one program and one refusal are meant.
-use Rattle.std.proofs.Common.{◌≡◌, ℕ, List, Option, Some, None, length, refl, ap, subst, sym}
+use Rattle.std.proofs.Common.{◌≡◌, ℕ, List, Option, length, refl, ap, subst, sym}
 use Rattle.clj_script.specs.Trees.{Program}
 use Rattle.seq_table.specs.Table.{language}
 use Rattle.seq_table.specs.Outputs.{Ending, Ran}
-use Rattle.seq_table.specs.Answers.{Options, Status, usage, script_refused, ended, Refusal, refusal_line, forms_line, summary, Answered, no_options, script_made, refused_to_check, refused_to_run, looked_at, was_run}
+use Rattle.seq_table.specs.Answers.{Options, Status, ended, Refusal, refusal_line, forms_line, summary, Answered, no_options, script_made, refused_to_check, refused_to_run, looked_at, was_run}
 use Rattle.seq_table.specs.Generated.{generated}
 use Rattle.seq_table.proofs.OneRun.{one_run}
 

@@ -1,5 +1,5 @@
 -- What was written so far is a prefix of what any run writes.
-use Rattle.std.proofs.Common.{◌≡◌, ℕ, zero, suc, ◌+◌, ◌-◌, ◌<◌, ◌≤◌, List, [], ◌++◌, length, refl, ap, sym, subst, append_assoc, append-nil, ◌∙◌, arith}
+use Rattle.std.proofs.Common.{◌≡◌, ℕ, zero, suc, ◌+◌, ◌-◌, ◌<◌, ◌≤◌, List, [], ◌++◌, length, ap, sym, subst, append_assoc, append-nil, ◌∙◌, arith}
 use Rattle.clj_script.specs.Trees.{Program}
 use Rattle.seq_plan.specs.Plan.{Rules}
 use Rattle.seq_meaning.specs.Counts.{FormsFit}

@@ -3,7 +3,7 @@ use Rattle.std.proofs.Common.{◌≡◌, refl, ap, subst, ◌∙◌, nat_le, Boo
 use Rattle.seq_values.specs.Model.{Value, nil, bool, int, keyword, text, vector, function, reduced, cell, empty, cons, chunk, range, vec_seq, no_values, ◌&◌}
 use Rattle.seq_plan.specs.Plan.{Plan, give, throw}
 use Rattle.seq_base.specs.declared.thrown.Thrown.TheVariants.{Depth}
-use Rattle.seq_plan.specs.Nodes.{first_of, rest_of, depth, deepest, is_nil, if_nil, give_value, Found, now, found}
+use Rattle.seq_plan.specs.Nodes.{first_of, rest_of, depth, deepest, is_nil, if_nil, give_value, now, found}
 use Rattle.seq_plan.specs.Sound.{Sound}
 use Rattle.seq_plan.proofs.SoundNodes.{found_sound}
 use Rattle.seq_table.specs.Lists.{ShowsSound}

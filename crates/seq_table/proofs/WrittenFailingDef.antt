@@ -1,5 +1,5 @@
 -- A `def` that throws is the last form of a run, by computation.
-use Rattle.std.proofs.Common.{ℕ, zero, suc, ◌<◌, ◌≤◌, List, [], ◌∷◌, ◌≡◌, codes, refl, Some, slice_get, arith}
+use Rattle.std.proofs.Common.{ℕ, zero, suc, ◌<◌, List, [], ◌∷◌, ◌≡◌, codes, refl, Some, slice_get, arith}
 use Rattle.seq_base.specs.declared.thrown.Thrown.TheVariants.{BadType}
 use Rattle.seq_values.specs.declared.words.Kind.TheVariants.{Future}
 use Rattle.seq_values.specs.Model.{Term, threw}

@@ -1,5 +1,5 @@
 ghost use Rattle.std.specs.Prelude.{◌≡◌, [], ◌∷◌, pos, true, false, Some, None};
-ghost use Rattle.seq_values.specs.Layers.{Node-F};
+ghost use Rattle.seq_values.specs.declared.value.Node.TheOpen.{Node-F};
 ghost use Rattle.seq_values.specs.Sight.{left, group_of, a_nil, a_bool, an_int, a_vector, a_cell, a_cons, a_function};
 ghost use Rattle.seq_values.specs.WellFormed.{good, node_seen, binds};
 ghost use Rattle.seq_values.specs.WellFormedTerms.{takes};

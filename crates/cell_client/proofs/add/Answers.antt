@@ -2,7 +2,7 @@ use Rattle.std.proofs.Common.{sym, subst, ◌<◌, ℕ}
 use Rattle.cell_book.proofs.Laws.{meets_law, keeps_law, still_lawful, still_owns}
 use Rattle.cell_book.proofs.Moves.{makes_holds}
 use Rattle.cell_client.specs.Sevens.{IsSevens}
-use Rattle.cell_client.proofs.Keeping.{sevens_makes}
+use Rattle.cell_client.proofs.Keeping.{sevens_makes, new_seen}
 use Rattle.cell_client.proofs.add.Goals as goal
 
 pub make-requires-clause-keeps : goal.make-requires-clause-keeps
@@ -29,3 +29,7 @@ returns-clause-own g c =
     let st = c.make.ensures.step in
     let w = c.args.by.now in
     still_owns (C.alone s) (C.leads s) (C.law s) (C.noted s) (C.seen s) (C.seen t) (C.held s) (C.held t) st.0 st.1 w c.requires.own st.2 (makes_holds st.0 st.1 w _ c.args.kind c.make.result w.claim st.3) st.4.0 (subst (λ (n : ℕ). 0 < n) (sym (c.make.ensures.held w.claim)) c.requires.own.0)
+
+pub returns-clause-made : goal.returns-clause-made
+returns-clause-made g c =
+    let st = c.make.ensures.step in new_seen st.0 st.1 c.args.by.now _ c.args.kind c.make.result (g.C.Cells.seen c.make.new.self) st.3 st.5

@@ -1,6 +1,6 @@
 use Rattle.std.proofs.Common.{sym, subst, ◌<◌, ℕ, Some}
-use Rattle.cell_book.proofs.Laws.{meets_law, keeps_law, still_lawful, still_owns, open_held}
-use Rattle.cell_book.proofs.Moves.{claims_onward}
+use Rattle.cell_book.proofs.Laws.{meets_law, keeps_law, still_lawful, still_owns, open_held, apart_if}
+use Rattle.cell_book.proofs.Moves.{claims_holds}
 use Rattle.cell_client.specs.Sevens.{IsSevens}
 use Rattle.cell_client.proofs.Keeping.{new_claims, sevens_claims}
 use Rattle.cell_client.proofs.ask.Goals as goal
@@ -29,7 +29,7 @@ returns-clause-own g c =
     let st = c.claim.ensures.step in
     let w = c.args.by.now in
     let h = c.claim.ensures.held w.claim in
-    still_owns (C.alone s) (C.leads s) (C.law s) (C.noted s) (C.seen s) (C.seen t) (C.held s) (C.held t) st.0 st.1 w c.requires.own st.2 ((claims_onward st.0 st.1 c.args.id (Some w.claim) c.claim.result w.claim st.3).holds) st.4.0 (subst (λ (n : ℕ). 0 < n) (sym h) (open_held (C.held s) c.claim.result w.claim c.requires.own.0))
+    still_owns (C.alone s) (C.leads s) (C.law s) (C.noted s) (C.seen s) (C.seen t) (C.held s) (C.held t) st.0 st.1 w c.requires.own st.2 (claims_holds st.0 st.1 c.args.id (Some w.claim) c.claim.result w.claim st.3 (apart_if (C.held s) c.claim.result w.claim c.claim.ensures.fresh c.requires.own.0)) st.4.0 (subst (λ (n : ℕ). 0 < n) (sym h) (open_held (C.held s) c.claim.result w.claim c.requires.own.0))
 
 pub returns-clause-others : goal.returns-clause-others
 returns-clause-others g c = λ w o. (
@@ -38,7 +38,7 @@ returns-clause-others g c = λ w o. (
     let t = c.claim.new.self in
     let st = c.claim.ensures.step in
     let h = c.claim.ensures.held w.claim in
-    still_owns (C.alone s) (C.leads s) (C.law s) (C.noted s) (C.seen s) (C.seen t) (C.held s) (C.held t) st.0 st.1 w o st.2 ((claims_onward st.0 st.1 c.args.id (Some c.args.by.now.claim) c.claim.result w.claim st.3).holds) st.4.0 (subst (λ (n : ℕ). 0 < n) (sym h) (open_held (C.held s) c.claim.result w.claim o.0)))
+    still_owns (C.alone s) (C.leads s) (C.law s) (C.noted s) (C.seen s) (C.seen t) (C.held s) (C.held t) st.0 st.1 w o st.2 (claims_holds st.0 st.1 c.args.id (Some c.args.by.now.claim) c.claim.result w.claim st.3 (apart_if (C.held s) c.claim.result w.claim c.claim.ensures.fresh o.0)) st.4.0 (subst (λ (n : ℕ). 0 < n) (sym h) (open_held (C.held s) c.claim.result w.claim o.0)))
 
 pub returns-clause-apart : goal.returns-clause-apart
 returns-clause-apart g c = new_claims (g.C.Cells.held c.args.cells.now) (g.C.Cells.seen c.args.cells.now) c.claim.result c.claim.ensures.fresh

@@ -1,7 +1,7 @@
 use Rattle.cell_book.proofs.Laws.{meets_law, keeps_law, still_lawful, still_owns, ended_held}
 use Rattle.cell_book.proofs.Moves.{fails_holds}
 use Rattle.cell_client.specs.Sevens.{IsSevens}
-use Rattle.cell_client.proofs.Keeping.{sevens_fails}
+use Rattle.cell_client.proofs.Keeping.{sevens_fails, thrown_seen}
 use Rattle.cell_client.proofs.throw.Goals as goal
 
 pub fail-requires-clause-keeps : goal.fail-requires-clause-keeps
@@ -28,3 +28,10 @@ returns-clause-own g c =
     let st = c.fail.ensures.step in
     let w = c.args.by.now in
     still_owns (C.alone s) (C.leads s) (C.law s) (C.noted s) (C.seen s) (C.seen t) (C.held s) (C.held t) st.0 st.1 w c.requires.own st.2 (fails_holds st.0 st.1 c.args.work _ w.claim st.3 c.requires.apart) st.4.0 (ended_held (C.held s) (C.held t) c.args.work w.claim (c.fail.ensures.held w.claim) c.requires.apart c.requires.own.0)
+
+pub returns-clause-thrown : goal.returns-clause-thrown
+returns-clause-thrown g c = λ id p on at. (
+    let C = g.C.Cells in
+    let s = c.args.cells.now in
+    let st = c.fail.ensures.step in
+    thrown_seen (C.alone s) (C.leads s) (C.law s) (C.noted s) (C.seen s) (C.seen c.fail.new.self) (C.held s) st.0 st.1 c.args.work _ id p st.2 st.3 st.5 on at)

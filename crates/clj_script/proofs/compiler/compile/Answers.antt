@@ -3,7 +3,7 @@ use Rattle.clj_script.specs.Arena.{AllBelow}
 use Rattle.clj_script.proofs.EntryLemmas.{number_got}
 use Rattle.clj_script.proofs.KeptLemmas.{more-length}
 use Rattle.clj_script.proofs.ThreadLemmas.{below_at}
-use Rattle.clj_script.proofs.ProgramLemmas.{HasAll, has_all, none_taken, one_taken, is_finished, compiled_found, compiled_only, compiled_refused, compiled_refuses}
+use Rattle.clj_script.proofs.ProgramLemmas.{HasAll, has_all, none_taken, one_taken, is_finished, compiled_found, compiled_closed, compiled_only, compiled_refused, compiled_refuses}
 use Rattle.clj_script.proofs.compiler.compile.Goals as goal
 
 pub loop-number-init : goal.loop-number-init
@@ -26,6 +26,11 @@ pub returns-clause-found : goal.returns-clause-found
 returns-clause-found c =
     let a : HasAll c.add_forms.new.sources.items c.loop-number.tops _ c.args.forms.now = has_all _ _ _ _ _ c.loop-number.number-index c.args.forms.now c.in_ok-numbers.ensures c.deref-number-items.ensures.value c.loop-number.invariant c.loop-number-test.false in
     compiled_found _ c.loop-number.tops _ _ a.taken a.stand _ (is_finished c.loop-number.tops _ c.finished.ensures.program c.finished.ensures.refused)
+
+pub returns-clause-closed : goal.returns-clause-closed
+returns-clause-closed c =
+    let a : HasAll c.add_forms.new.sources.items c.loop-number.tops _ c.args.forms.now = has_all _ _ _ _ _ c.loop-number.number-index c.args.forms.now c.in_ok-numbers.ensures c.deref-number-items.ensures.value c.loop-number.invariant c.loop-number-test.false in
+    compiled_closed _ c.loop-number.tops _ _ a.taken a.stand _ (is_finished c.loop-number.tops _ c.finished.ensures.program c.finished.ensures.refused)
 
 pub returns-clause-only : goal.returns-clause-only
 returns-clause-only c =

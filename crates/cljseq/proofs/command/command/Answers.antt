@@ -1,5 +1,5 @@
 use Rattle.std.proofs.Common.{Err, ap}
-use Rattle.cljseq.proofs.AnswerLemmas.{too_long_text, too_long_part}
+use Rattle.seq_run.proofs.AnswerLemmas.{too_long_text, too_long_part}
 use Rattle.cljseq.proofs.command.command.Goals as goal
 
 pub returns-in-Err-TooLong-clause-answered : goal.returns-in-Err-TooLong-clause-answered

@@ -1,4 +1,4 @@
-use Rattle.lawful_client.proofs.Starting.{claims_starts}
+use Rattle.lawful_client.proofs.Starting.{claims_starts, asker_apart}
 use Rattle.std.proofs.Common.{Some}
 use Rattle.seq_lawful.specs.Lawful.{Lawful}
 use Rattle.seq_lawful.proofs.Keeps.{kept}
@@ -19,4 +19,4 @@ returns g c =
     let s = c.args.cells.now in
     let t = c.claim.new.self in
     let st = c.claim.ensures.step in
-    record { starts = claims_starts (C.leads s) st.0 st.1 c.args.id (Some c.args.by.now.claim) c.claim.result (C.seen s) (C.seen t) (C.held s) (C.held t) st.3 st.4.0 c.claim.ensures.held st.5 }
+    record { starts = claims_starts (C.leads s) st.0 st.1 c.args.id (Some c.args.by.now.claim) c.claim.result (C.seen s) (C.seen t) (C.held s) (C.held t) st.3 st.4.0 c.claim.ensures.held st.5 (asker_apart (C.held s) c.args.by.now c.claim.result c.requires.own.0 c.claim.ensures.fresh) }

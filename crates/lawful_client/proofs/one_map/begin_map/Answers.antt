@@ -1,6 +1,6 @@
 use Rattle.lawful_client.specs.OneMap.{one_map, steps, table, IsGood}
 use Rattle.seq_lawful.proofs.Discharge.{keeps_begin}
-use Rattle.lawful_client.proofs.Walks.{may_begin}
+use Rattle.lawful_client.proofs.Walks.{may_begin, none_in}
 use Rattle.lawful_client.proofs.Steps.{kept, begins_law, begins_run}
 use Rattle.lawful_client.proofs.one_map.begin_map.Goals as goal
 
@@ -26,3 +26,6 @@ returns-clause-run g c =
     let t = c.begin_form.new.self in
     let st = c.begin_form.ensures.step in
     begins_run (C.alone s) (C.leads s) (C.law s) (C.noted s) (C.seen s) (C.seen t) (C.held s) (C.held t) st.0 st.1 st.2 st.4.0 c.requires.leads c.requires.new.none_seen c.begin_form.result st.3 c.begin_form.ensures.held st.5
+
+pub begin_form-requires-clause-unbegun : goal.begin_form-requires-clause-unbegun
+begin_form-requires-clause-unbegun g c = none_in (g.C.Cells.seen c.args.cells.now).begun 1 c.requires.new.none_seen

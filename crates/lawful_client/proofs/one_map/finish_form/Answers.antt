@@ -1,9 +1,9 @@
 use Rattle.std.proofs.Common.{subst, sym}
 use Rattle.seq_plan.specs.Plan.{give}
 use Rattle.seq_lawful.specs.Runs.{OnRun}
-use Rattle.lawful_client.specs.OneMap.{one_map, steps, table, IsGood}
+use Rattle.lawful_client.specs.OneMap.{form_gives, one_map, steps, table, IsGood}
 use Rattle.seq_lawful.proofs.Discharge.{keeps_finish}
-use Rattle.lawful_client.proofs.Steps.{kept, finishes_law}
+use Rattle.lawful_client.proofs.Steps.{kept, owns_run, finishes_law}
 use Rattle.lawful_client.proofs.one_map.finish_form.Goals as goal
 
 pub finish-requires-clause-keeps : goal.finish-requires-clause-keeps
@@ -20,3 +20,9 @@ returns-clause-law g c =
     let t = c.finish.new.self in
     let st = c.finish.ensures.step in
     finishes_law (C.alone s) (C.alone t) (C.leads s) (C.law s) (C.law t) (C.noted s) (C.noted t) (C.seen s) (C.seen t) (C.held s) (C.held t) (g.met.C.Cells.same_alone s t c.finish.ensures.same) (g.met.C.Cells.same_law s t c.finish.ensures.same) (λ d e. g.met.C.Cells.noted_one t d e) st.0 st.1 st.2 st.4.0 st.4.1 c.requires.law c.args.form 3 c.args.line (c.requires.run.0, subst (λ x. OnRun table one_map steps (C.seen s) c.args.form 3 (give x)) (sym c.requires.line) c.requires.run.1) st.3
+
+pub finish-requires-clause-own : goal.finish-requires-clause-own
+finish-requires-clause-own g c =
+    let C = g.C.Cells in
+    let s = c.args.cells.now in
+    owns_run (C.held s) (C.seen s) c.args.form 3 form_gives c.requires.run

@@ -1,9 +1,9 @@
 use Rattle.std.proofs.Common.{subst, sym}
 use Rattle.seq_plan.specs.Plan.{give}
 use Rattle.seq_lawful.specs.Runs.{OnRun}
-use Rattle.lawful_client.specs.OneMap.{one_map, steps, table, IsGood}
+use Rattle.lawful_client.specs.OneMap.{part_gives, one_map, steps, table, IsGood}
 use Rattle.seq_lawful.proofs.Discharge.{keeps_finish}
-use Rattle.lawful_client.proofs.Steps.{kept, finishes_law, finishes_run}
+use Rattle.lawful_client.proofs.Steps.{kept, owns_run, finishes_law, finishes_run}
 use Rattle.lawful_client.proofs.one_map.finish_whole.Goals as goal
 
 pub finish-requires-clause-keeps : goal.finish-requires-clause-keeps
@@ -28,3 +28,9 @@ returns-clause-form g c =
     let t = c.finish.new.self in
     let st = c.finish.ensures.step in
     λ form id r by. finishes_run (C.alone s) (C.leads s) (C.law s) (C.noted s) (C.seen s) (C.seen t) (C.held s) (C.held t) st.0 st.1 st.2 st.4.0 form c.args.work id c.args.rest c.args.value r by c.requires.run.0 c.requires.value c.finish.ensures.held st.3 st.5
+
+pub finish-requires-clause-own : goal.finish-requires-clause-own
+finish-requires-clause-own g c =
+    let C = g.C.Cells in
+    let s = c.args.cells.now in
+    owns_run (C.held s) (C.seen s) c.args.work 7 (part_gives c.args.rest) c.requires.run

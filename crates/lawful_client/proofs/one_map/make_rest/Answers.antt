@@ -1,8 +1,8 @@
 use Rattle.seq_values.specs.declared.words.Kind.TheVariants.{Lazy}
-use Rattle.lawful_client.specs.OneMap.{one_map, steps, table, IsGood, part_gives}
+use Rattle.lawful_client.specs.OneMap.{part_makes, one_map, steps, table, IsGood, part_gives}
 use Rattle.seq_lawful.proofs.Discharge.{keeps_make}
 use Rattle.lawful_client.proofs.Walks.{make_so}
-use Rattle.lawful_client.proofs.Steps.{kept, makes_law, makes_rest, waits_on}
+use Rattle.lawful_client.proofs.Steps.{kept, owns_run, makes_owns, makes_law, makes_rest, waits_on}
 use Rattle.lawful_client.proofs.one_map.make_rest.Goals as goal
 
 pub make-requires-clause-keeps : goal.make-requires-clause-keeps
@@ -35,3 +35,17 @@ returns-clause-form g c =
     let t = c.make.new.self in
     let st = c.make.ensures.step in
     λ form id r by. waits_on (C.alone s) (C.leads s) (C.law s) (C.noted s) (C.seen s) (C.seen t) (C.held s) (C.held t) st.0 st.1 st.2 st.4.0 c.args.work.now form id Lazy c.args.term c.make.result r by c.requires.run.0 c.make.ensures.held st.3
+
+pub make-requires-clause-own : goal.make-requires-clause-own
+make-requires-clause-own g c =
+    let C = g.C.Cells in
+    let s = c.args.cells.now in
+    owns_run (C.held s) (C.seen s) c.args.work.now 7 part_makes c.requires.run
+
+pub returns-clause-kept : goal.returns-clause-kept
+returns-clause-kept g c =
+    let C = g.C.Cells in
+    let s = c.args.cells.now in
+    let t = c.make.new.self in
+    let st = c.make.ensures.step in
+    makes_owns (C.alone s) (C.leads s) (C.law s) (C.noted s) (C.seen s) (C.seen t) (C.held s) (C.held t) st.0 st.1 st.2 st.4.0 c.args.work.now Lazy c.args.term c.make.result c.make.ensures.held st.3

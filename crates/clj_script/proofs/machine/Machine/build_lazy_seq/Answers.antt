@@ -9,7 +9,7 @@ pub give-requires-clause-sound : goal.give-requires-clause-sound
 give-requires-clause-sound c =
     let s : IsSound c.taken_one-expr.new.self = takes_sound c.requires.sound c.taken_one-expr.ensures in
     let b = takes_below c.requires.sound c.taken_one-expr.ensures in
-    record { lower = s.lower; bodies = rw c.in_ok-push.ensures.items (below_both (length c.taken_one-expr.new.self.nodes.items) c.taken_one-expr.new.self.bodies.items c.taken_one-expr.result s.bodies b.0); values = s.values }
+    record { lower = s.lower; written = s.written; bodies = rw c.in_ok-push.ensures.items (below_both (length c.taken_one-expr.new.self.nodes.items) c.taken_one-expr.new.self.bodies.items c.taken_one-expr.result s.bodies b.0); values = s.values }
 
 pub returns : goal.returns
 returns c =

@@ -7,7 +7,7 @@ use Rattle.clj_script.proofs.machine.Machine.build_let.Goals as goal
 pub give-requires-clause-sound : goal.give-requires-clause-sound
 give-requires-clause-sound c =
     let s : IsSound c.taken_one-value.new.self = takes_sound c.requires.sound (takes_both c.taken_one-body.ensures c.taken_one-value.ensures) in
-    record { lower = s.lower; bodies = s.bodies; values = s.values }
+    record { lower = s.lower; written = s.written; bodies = s.bodies; values = s.values }
 
 pub give-requires-clause-below : goal.give-requires-clause-below
 give-requires-clause-below c = takes_below c.requires.sound (takes_both c.taken_one-body.ensures c.taken_one-value.ensures)

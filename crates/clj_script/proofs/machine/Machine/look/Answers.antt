@@ -12,7 +12,7 @@ returns-in_ok-value-in-Literal c =
     let is = rw c.as_slice.ensures.value at c.entry_at-entry.ensures.reads in
     let plan = plan_literal d c.args.self.now.locals c.args.sources.now.items form c.entry_at-entry.result.now is _ c.in-Literal.is in
     on_ok c.give.result
-    (λ g. looked_as plan (looked_answered c.requires.lower c.requires.within (answered_literal c.in_ok-value-in-Literal.ensures g)))
+    (λ g. looked_as plan (looked_answered c.requires.lower c.requires.within (answered_literal _ c.in_ok-value-in-Literal.ensures.0 g)))
     c.give.ensures
 
 pub returns-in-Vector : goal.returns-in-Vector

@@ -1,0 +1,5 @@
+pub mod Growing
+pub mod Quieting
+pub mod Stepping
+pub mod Turning
+pub mod Viewing

@@ -1,0 +1,5 @@
+//! Tests of `seq_plan`.
+#![tactic(auto)]
+
+#[cfg(test)]
+mod tests;
