@@ -1,6 +1,6 @@
 //! A call of a word, by the word.
 ghost use Rattle.std.specs.Prelude.{◌≡◌, IsTrue};
-ghost use Rattle.core_fns.specs.Answering.{Answers, Tells, told};
+ghost use Rattle.core_fns.specs.Answering.{Answers, told};
 ghost use Rattle.core_rows.specs.Table.{core_call};
 ghost use Rattle.seq_values.specs.Plain.{plains};
 ghost use Rattle.seq_values.specs.WellFormed.{are_well_formed};
@@ -44,6 +44,17 @@ pub fn call_builtin(alloc: Global, word: Builtin, args: &[Value]) -> Result<Valu
         Builtin::IsNegative => told(is_negative(args)),
         Builtin::IsEven => told(is_even(args)),
         Builtin::IsOdd => told(is_odd(args)),
+        Builtin::IsNil => told(tell(Test::Nil, args)),
+        Builtin::IsSome => told(tell(Test::Some, args)),
+        Builtin::IsTrue => told(tell(Test::True, args)),
+        Builtin::IsFalse => told(tell(Test::False, args)),
+        Builtin::Not => told(tell(Test::Not, args)),
+        Builtin::IsNumber => told(tell(Test::Number, args)),
+        Builtin::IsKeyword => told(tell(Test::Keyword, args)),
+        Builtin::IsString => told(tell(Test::Text, args)),
+        Builtin::IsVector => told(tell(Test::Vector, args)),
+        Builtin::IsFunction => told(tell(Test::Function, args)),
+        Builtin::IsReduced => told(tell(Test::Reduced, args)),
         Builtin::Identity => identity(args),
         Builtin::Constantly => constantly(alloc, args),
         Builtin::Complement => complement(alloc, args),
@@ -55,7 +66,7 @@ pub fn call_builtin(alloc: Global, word: Builtin, args: &[Value]) -> Result<Valu
         Builtin::List => list_of(alloc, args),
         Builtin::Reduced => reduced_of(alloc, args),
         Builtin::Unreduced => unreduced_of(args),
-        other => told(telling(other, args)),
+        _ => Err(CallStop::Thrown(Thrown::Arity)),
     }
 }
 
@@ -66,25 +77,5 @@ fn told(answer: Result<Value, Thrown>) -> Result<Value, CallStop>
     match answer {
         Ok(value) => Ok(value),
         Err(why) => Err(CallStop::Thrown(why)),
-    }
-}
-
-/// The words that tell what a value is.
-fn telling(word: Builtin, args: &[Value]) -> Result<Value, Thrown>
-    ensures { Tells result (core_call word (plains args.now)) }
-{
-    match word {
-        Builtin::IsNil => tell(Test::Nil, args),
-        Builtin::IsSome => tell(Test::Some, args),
-        Builtin::IsTrue => tell(Test::True, args),
-        Builtin::IsFalse => tell(Test::False, args),
-        Builtin::Not => tell(Test::Not, args),
-        Builtin::IsNumber => tell(Test::Number, args),
-        Builtin::IsKeyword => tell(Test::Keyword, args),
-        Builtin::IsString => tell(Test::Text, args),
-        Builtin::IsVector => tell(Test::Vector, args),
-        Builtin::IsFunction => tell(Test::Function, args),
-        Builtin::IsReduced => tell(Test::Reduced, args),
-        _ => Err(Thrown::Arity),
     }
 }
