@@ -19,7 +19,7 @@ use Rattle.seq_values.specs.declared.words.Target.TheVariants as T
 use Rattle.seq_values.specs.declared.term.CallStop.{CallStop}
 use Rattle.seq_values.specs.declared.term.CallStop.TheVariants as S
 use Rattle.seq_plan.specs.Plan.{Plan, give, throw}
-use Rattle.seq_plan.specs.Nodes.{longest, depth, depths, with_members, with_value, give_value}
+use Rattle.seq_plan.specs.Nodes.{longest, depth, depths, with_members, give_value}
 use Rattle.seq_plan.specs.Lists.{list_of, give_list}
 use Rattle.seq_plan.specs.Arguments.{of_value}
 use Rattle.seq_plan.proofs.Depths.{depth_agrees}

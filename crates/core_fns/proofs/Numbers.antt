@@ -1,6 +1,5 @@
 -- Numbers that stay within 64 bits.
-use Rattle.std.proofs.Common.{◌≡◌, ℕ, ℤ, pos, negsuc, ◌<◌, ◌≤◌, ◌^◌, true, false, Option, Some, None, SomeIff, FitsSigned, w64, nat_le, refl, ap, sym, ◌∙◌, arith, rules}
-use Rattle.std.proofs.lemmas.Bool.{lt-ltb, le-ltb}
+use Rattle.std.proofs.Common.{◌≡◌, ℤ, pos, negsuc, true, false, Option, Some, None, SomeIff, FitsSigned, w64, refl, ap, arith, rules}
 use Rattle.core_rows.specs.Arithmetic.{fits}
 use Rattle.core_fns.specs.Answering.{kept}
 

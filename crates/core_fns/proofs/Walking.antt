@@ -1,6 +1,6 @@
 -- How a loop over the arguments goes along the row.
-use Rattle.std.proofs.Common.{◌≡◌, ℕ, zero, suc, ◌+◌, ◌≤◌, ◌<◌, ℤ, ◌-ℤ◌, Ok, Err, Bool, true, false, ◌&&◌, List, [], ◌∷◌, length, drop, get_or, Option, Some, None, refl, ap, sym, ◌∙◌, arith}
-use Rattle.seq_base.specs.declared.thrown.Thrown.TheVariants.{Overflow, BadType}
+use Rattle.std.proofs.Common.{◌≡◌, ℕ, zero, suc, ◌+◌, ◌<◌, ℤ, ◌-ℤ◌, Ok, Err, Bool, true, false, ◌&&◌, List, [], ◌∷◌, length, drop, get_or, Option, Some, None, refl, ap, sym, ◌∙◌, arith}
+use Rattle.seq_base.specs.declared.thrown.Thrown.TheVariants.{Overflow}
 use Rattle.seq_values.specs.Model as M
 use Rattle.seq_values.specs.Plain.{plain, plains}
 use Rattle.seq_values.specs.declared.value.Value.{Value}
@@ -8,7 +8,7 @@ use Rattle.seq_plan.specs.Plan.{Plan, give, throw}
 use Rattle.core_rows.specs.Arithmetic.{also, integers, on_integers, of_any, of_some, first_and_others, minus, from_left, left_of, each_pair, fits}
 use Rattle.std.specs.declared.result.Result.{Result}
 use Rattle.seq_base.specs.declared.thrown.Thrown.{Thrown}
-use Rattle.core_fns.specs.Answering.{Tells, number, kept, given, next_of}
+use Rattle.core_fns.specs.Answering.{Tells, number, kept, next_of}
 
 -- ## What is left of a row, by what the loop has
 

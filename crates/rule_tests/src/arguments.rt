@@ -154,10 +154,7 @@ pub(crate) fn shown(alloc: Global, value: &Value) -> Result<String, Fail> {
 }
 
 /// What a call of a word came to: the value, the error's word, or `memory`.
-pub(crate) fn outcome(
-    alloc: Global,
-    answer: &Result<Value, CallStop>,
-) -> Result<String, Fail> {
+pub(crate) fn outcome(alloc: Global, answer: &Result<Value, CallStop>) -> Result<String, Fail> {
     let mut out = String::new(alloc);
     match answer {
         Ok(value) => return shown(alloc, value),

@@ -17,14 +17,34 @@ const GREATEST: i64 = 9223372036854775807;
 const ROWS: [(Builtin, &[Arg], &str); 146] = [
     (Builtin::Plus, &[], "0"),
     (Builtin::Plus, &[Arg::Int(1), Arg::Int(2), Arg::Int(3)], "6"),
-    (Builtin::Plus, &[Arg::Int(GREATEST), Arg::Int(1)], "overflow"),
-    (Builtin::Plus, &[Arg::Int(GREATEST), Arg::Int(1), Arg::Nil], "type"),
+    (
+        Builtin::Plus,
+        &[Arg::Int(GREATEST), Arg::Int(1)],
+        "overflow",
+    ),
+    (
+        Builtin::Plus,
+        &[Arg::Int(GREATEST), Arg::Int(1), Arg::Nil],
+        "type",
+    ),
     (Builtin::Times, &[], "1"),
-    (Builtin::Times, &[Arg::Int(2), Arg::Int(3), Arg::Int(4)], "24"),
-    (Builtin::Times, &[Arg::Int(GREATEST), Arg::Int(2)], "overflow"),
+    (
+        Builtin::Times,
+        &[Arg::Int(2), Arg::Int(3), Arg::Int(4)],
+        "24",
+    ),
+    (
+        Builtin::Times,
+        &[Arg::Int(GREATEST), Arg::Int(2)],
+        "overflow",
+    ),
     (Builtin::Times, &[Arg::True], "type"),
     (Builtin::Minus, &[Arg::Int(5)], "-5"),
-    (Builtin::Minus, &[Arg::Int(10), Arg::Int(3), Arg::Int(2)], "5"),
+    (
+        Builtin::Minus,
+        &[Arg::Int(10), Arg::Int(3), Arg::Int(2)],
+        "5",
+    ),
     (Builtin::Minus, &[], "arity"),
     (Builtin::Minus, &[Arg::Int(LEAST)], "overflow"),
     (Builtin::Minus, &[Arg::Int(LEAST), Arg::Int(1)], "overflow"),
@@ -63,24 +83,60 @@ const ROWS: [(Builtin, &[Arg], &str); 146] = [
     (Builtin::Max, &[Arg::Int(3), Arg::Int(1), Arg::Int(2)], "3"),
     (Builtin::Max, &[], "arity"),
     (Builtin::Max, &[Arg::Nil, Arg::Int(1)], "type"),
-    (Builtin::Less, &[Arg::Int(1), Arg::Int(2), Arg::Int(3)], "true"),
-    (Builtin::Less, &[Arg::Int(1), Arg::Int(3), Arg::Int(2)], "false"),
+    (
+        Builtin::Less,
+        &[Arg::Int(1), Arg::Int(2), Arg::Int(3)],
+        "true",
+    ),
+    (
+        Builtin::Less,
+        &[Arg::Int(1), Arg::Int(3), Arg::Int(2)],
+        "false",
+    ),
     (Builtin::Less, &[Arg::Int(2), Arg::Int(2)], "false"),
     (Builtin::Less, &[Arg::Int(5)], "true"),
     (Builtin::Less, &[], "arity"),
     (Builtin::Less, &[Arg::Int(2), Arg::Int(1), Arg::Nil], "type"),
-    (Builtin::LessOrEqual, &[Arg::Int(1), Arg::Int(1), Arg::Int(2)], "true"),
-    (Builtin::LessOrEqual, &[Arg::Int(2), Arg::Int(1), Arg::Int(3)], "false"),
+    (
+        Builtin::LessOrEqual,
+        &[Arg::Int(1), Arg::Int(1), Arg::Int(2)],
+        "true",
+    ),
+    (
+        Builtin::LessOrEqual,
+        &[Arg::Int(2), Arg::Int(1), Arg::Int(3)],
+        "false",
+    ),
     (Builtin::LessOrEqual, &[], "arity"),
     (Builtin::LessOrEqual, &[Arg::Nil], "type"),
-    (Builtin::Greater, &[Arg::Int(3), Arg::Int(2), Arg::Int(1)], "true"),
-    (Builtin::Greater, &[Arg::Int(3), Arg::Int(1), Arg::Int(2)], "false"),
+    (
+        Builtin::Greater,
+        &[Arg::Int(3), Arg::Int(2), Arg::Int(1)],
+        "true",
+    ),
+    (
+        Builtin::Greater,
+        &[Arg::Int(3), Arg::Int(1), Arg::Int(2)],
+        "false",
+    ),
     (Builtin::Greater, &[], "arity"),
     (Builtin::Greater, &[Arg::Int(1), Arg::Empty], "type"),
-    (Builtin::GreaterOrEqual, &[Arg::Int(2), Arg::Int(2), Arg::Int(1)], "true"),
-    (Builtin::GreaterOrEqual, &[Arg::Int(1), Arg::Int(2)], "false"),
+    (
+        Builtin::GreaterOrEqual,
+        &[Arg::Int(2), Arg::Int(2), Arg::Int(1)],
+        "true",
+    ),
+    (
+        Builtin::GreaterOrEqual,
+        &[Arg::Int(1), Arg::Int(2)],
+        "false",
+    ),
     (Builtin::GreaterOrEqual, &[], "arity"),
-    (Builtin::GreaterOrEqual, &[Arg::Keyword, Arg::Int(1)], "type"),
+    (
+        Builtin::GreaterOrEqual,
+        &[Arg::Keyword, Arg::Int(1)],
+        "type",
+    ),
     (Builtin::IsZero, &[Arg::Int(0)], "true"),
     (Builtin::IsZero, &[Arg::Int(1)], "false"),
     (Builtin::IsZero, &[Arg::Nil], "type"),
@@ -139,19 +195,51 @@ const ROWS: [(Builtin, &[Arg], &str); 146] = [
     (Builtin::Constantly, &[Arg::Int(1), Arg::Int(2)], "arity"),
     (Builtin::Complement, &[Arg::Word(Builtin::Inc)], "#fn"),
     (Builtin::Complement, &[], "arity"),
-    (Builtin::Partial, &[Arg::Word(Builtin::Inc), Arg::Int(1), Arg::Int(2)], "#fn"),
+    (
+        Builtin::Partial,
+        &[Arg::Word(Builtin::Inc), Arg::Int(1), Arg::Int(2)],
+        "#fn",
+    ),
     (Builtin::Partial, &[], "arity"),
     (Builtin::Comp, &[], "#fn"),
-    (Builtin::Comp, &[Arg::Word(Builtin::Inc), Arg::Word(Builtin::Inc)], "#fn"),
+    (
+        Builtin::Comp,
+        &[Arg::Word(Builtin::Inc), Arg::Word(Builtin::Inc)],
+        "#fn",
+    ),
     (Builtin::Completing, &[Arg::Word(Builtin::Inc)], "#fn"),
-    (Builtin::Completing, &[Arg::Word(Builtin::Inc), Arg::Word(Builtin::Inc)], "#fn"),
+    (
+        Builtin::Completing,
+        &[Arg::Word(Builtin::Inc), Arg::Word(Builtin::Inc)],
+        "#fn",
+    ),
     (Builtin::Completing, &[], "arity"),
-    (Builtin::Completing, &[Arg::Word(Builtin::Inc), Arg::Word(Builtin::Inc), Arg::Word(Builtin::Inc)], "arity"),
-    (Builtin::Monoid, &[Arg::Word(Builtin::Inc), Arg::Word(Builtin::Inc)], "#fn"),
+    (
+        Builtin::Completing,
+        &[
+            Arg::Word(Builtin::Inc),
+            Arg::Word(Builtin::Inc),
+            Arg::Word(Builtin::Inc),
+        ],
+        "arity",
+    ),
+    (
+        Builtin::Monoid,
+        &[Arg::Word(Builtin::Inc), Arg::Word(Builtin::Inc)],
+        "#fn",
+    ),
     (Builtin::Monoid, &[Arg::Word(Builtin::Inc)], "arity"),
-    (Builtin::Vector, &[Arg::Int(1), Arg::None, Arg::Nil], "[1 .. nil]"),
+    (
+        Builtin::Vector,
+        &[Arg::Int(1), Arg::None, Arg::Nil],
+        "[1 .. nil]",
+    ),
     (Builtin::Vector, &[], "[]"),
-    (Builtin::List, &[Arg::Int(1), Arg::Int(2), Arg::Int(3)], "(1 2 3)"),
+    (
+        Builtin::List,
+        &[Arg::Int(1), Arg::Int(2), Arg::Int(3)],
+        "(1 2 3)",
+    ),
     (Builtin::List, &[], "()"),
     (Builtin::Reduced, &[Arg::Int(1)], "#reduced 1"),
     (Builtin::Reduced, &[], "arity"),
@@ -212,7 +300,12 @@ fn of_one(alloc: Global, word: Builtin, only: Value) -> Result<String, Fail>
 #[test]
 fn depth_is_limited(rt: HostRuntime) -> Result<(), Fail> {
     let alloc = rt.alloc();
-    for word in [Builtin::Vector, Builtin::List, Builtin::Reduced, Builtin::Constantly] {
+    for word in [
+        Builtin::Vector,
+        Builtin::List,
+        Builtin::Reduced,
+        Builtin::Constantly,
+    ] {
         let deepest = nested(alloc, 256)?;
         assert_eq!(rt; of_one(alloc, word, deepest)?.as_str(), "depth");
         let less = nested(alloc, 255)?;
