@@ -22,13 +22,12 @@ none_before [] ys e = refl
 none_before (x ∷ xs) ys e = absurd (cc)
 
 -- a name of which nothing is refused is new
-new_by : (taken unfit : Bool) (r : ScriptRefusal) (s : Source) → (if taken then r ∷ [] else refused_if unfit 10 s) ≡ [] → (if taken then false else (if unfit then false else true)) ≡ true
-new_by true unfit r s e = absurd (cc)
-new_by false true r s e = absurd (cc)
-new_by false false r s e = refl
+new_by : (taken : Bool) (r : ScriptRefusal) (rs : List ScriptRefusal) → (if taken then r ∷ [] else rs) ≡ [] → (if taken then false else true) ≡ true
+new_by true r rs e = absurd (cc)
+new_by false r rs e = refl
 
 new_name : (d : Definitions) (s : Source) → name_refusals d s ≡ [] → is_new d (name_of s) ≡ true
-new_name d s e = new_by (is_taken d (name_of s)) (is_unfit (name_of s)) (refusal 8 (place_of s)) s e
+new_name d s e = new_by (is_taken d (name_of s)) (refusal 8 (place_of s)) (refused_if (is_unfit (name_of s)) 10 s) e
 
 with_one_more : (tops : List Top) (t : Top) → length (tops ++ t ∷ []) ≡ suc (length tops)
 with_one_more tops t = length-append tops (t ∷ []) ∙ add-one (length tops)

@@ -131,7 +131,7 @@ fn alike(both: &Both) -> bool {
 }
 
 /// Some steps of a series of windows and pushes, with the item at some place read after each.
-fn steps(alloc: Global, mut both: Both, mut seed: u64, count: usize) -> Result<(Both, u64), Fail> {
+fn steps(alloc: Global, mut both: Both, mut seed: u64, count: u32) -> Result<(Both, u64), Fail> {
     for step in 0..count {
         seed = next(seed);
         let at = below(seed, both.plain.len());
@@ -142,7 +142,7 @@ fn steps(alloc: Global, mut both: Both, mut seed: u64, count: usize) -> Result<(
             0 => cut(alloc, &both, below(seed, 70), 0)?,
             1 => cut(alloc, &both, 0, below(seed, 70))?,
             2 => cut(alloc, &both, below(seed, 3), below(seed, 5))?,
-            _ => grown(alloc, both, step as u32)?,
+            _ => grown(alloc, both, step)?,
         };
     }
     Ok((both, seed))
