@@ -1,60 +1,11 @@
-use crate::{
-    Both, end, new_book, quiet_under, regroup, run_eight, run_two, tasks_of, tasks_on_one,
-};
-use cell_book::{Cells, ClaimRefusal, Look, MakeRefusal, Totals};
+use crate::{end, new_book, quiet_under, regroup};
+use cell_book::{Cells, MakeRefusal, Totals};
 use cell_client::{add, begin};
 use cell_shared::Quiet;
-use seq_values::{Kind, Value};
+use seq_values::Kind;
 use std::alloc::Global;
 use std::sync::Wait;
 use std::test::Fail;
-use std::thread::Threads;
-
-fn is_seven(look: &Look) -> bool {
-    matches!(look, Look::Done(Value::Int(7)))
-}
-
-// The claim came too late.
-fn is_late(answer: &Result<bool, ClaimRefusal>) -> bool {
-    match answer {
-        Err(ClaimRefusal::Seen(Look::Forcing { .. })) => true,
-        Err(ClaimRefusal::Seen(look)) => is_seven(look),
-        _ => false,
-    }
-}
-
-fn is_done(answer: &Result<bool, ClaimRefusal>) -> bool {
-    matches!(answer, Ok(true))
-}
-
-fn one_did_the_work(both: &Both) -> bool {
-    (is_done(&both.first) && is_late(&both.second))
-        || (is_late(&both.first) && is_done(&both.second))
-}
-
-// A leading pass makes one future, and two threads claim it.
-fn raced<R: Threads + Wait + Sync>(rt: &R, alloc: Global) -> Result<bool, Fail> {
-    let Ok((book, mut pass)) = new_book(alloc, 4) else {
-        return Err(Fail::from("memory"));
-    };
-    let Ok(form) = begin(&mut book.viewed(rt, &mut pass), 1) else {
-        return Err(Fail::from("memory"));
-    };
-    let tasks = tasks_on_one(rt, &book, &mut pass, &form);
-    end(&mut book.viewed(rt, &mut pass), form);
-    let Ok((first, second)) = tasks else {
-        return Err(Fail::from("memory"));
-    };
-    let id = first.id;
-    let both = run_two(rt, &book, first, second, 0);
-    let one = one_did_the_work(&both);
-    let Both { pass: other, .. } = both;
-    book.join(&mut pass, other);
-    let Ok(look) = book.viewed(rt, &mut pass).look(id) else {
-        return Err(Fail::from("memory"));
-    };
-    Ok(one && is_seven(&look))
-}
 
 fn is_totals(quiet: Quiet, made: u32, realised: u32) -> bool {
     quiet
@@ -96,38 +47,6 @@ fn looks_at_the_limit<R: Wait>(rt: &R, alloc: Global) -> Result<bool, Fail> {
     end(&mut book.viewed(rt, &mut pass), form);
     let spent = book.quiet_view(rt, &mut pass) == Quiet::Spent;
     Ok(spent && matches!(part, Err(MakeRefusal::Spent(_))))
-}
-
-#[test]
-fn one_of_two_threads_does_the_work(rt: HostRuntime) -> Result<(), Fail> {
-    for _ in 0..50 {
-        assert!(rt; raced(&rt, rt.alloc())?);
-    }
-    Ok(())
-}
-
-#[test]
-fn eight_threads_fill_one_book(rt: HostRuntime) -> Result<(), Fail> {
-    let Ok((book, mut pass)) = new_book(rt.alloc(), 200000) else {
-        return Err(Fail::from("memory"));
-    };
-    let Ok(form) = begin(&mut book.viewed(&rt, &mut pass), 1) else {
-        return Err(Fail::from("memory"));
-    };
-    let one = tasks_of(&rt, &book, &mut pass, &form);
-    let two = tasks_of(&rt, &book, &mut pass, &form);
-    let three = tasks_of(&rt, &book, &mut pass, &form);
-    let four = tasks_of(&rt, &book, &mut pass, &form);
-    end(&mut book.viewed(&rt, &mut pass), form);
-    let (Ok(one), Ok(two), Ok(three), Ok(four)) = (one, two, three, four) else {
-        return Err(Fail::from("memory"));
-    };
-    let (other, all) = run_eight(&rt, &book, one, two, three, four, 12499);
-    assert!(rt; all);
-    book.join(&mut pass, other);
-    let quiet = book.quiet_view(&rt, &mut pass);
-    assert!(rt; is_totals(quiet, 100000, 100000));
-    Ok(())
 }
 
 #[test]
