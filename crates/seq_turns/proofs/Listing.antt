@@ -64,12 +64,12 @@ long_more xs x = length-append (plains xs) (plain x ∷ []) ∙ ap (λ n. n + 1)
 pub grows_all : (xs : List Value) (x : Value) (all : Gathered) → length xs < 4294967295 → plains all.items.items ≡ plains xs ++ plain x ∷ [] → Grows (with_members (plains xs ++ plain x ∷ [])) (G.All all)
 grows_all xs x all b e =
     let l : nat_le (length (plains xs ++ plain x ∷ [])) longest ≡ true = is_le _ _ (omega (arith, long_more xs x, b)) in
-    λ k. rw l (ap k (sym e))
+    record { goes = λ k. rw l (ap k (sym e)) }
 
 pub grows_no_more : (xs : List Value) (x : Value) → 4294967295 ≤ length xs → Grows (with_members (plains xs ++ plain x ∷ [])) G.TooMany
 grows_no_more xs x b =
     let l : nat_le (length (plains xs ++ plain x ∷ [])) longest ≡ false = not_le _ _ (omega (arith, long_more xs x, b)) in
-    λ k. rw l refl
+    record { goes = λ k. rw l refl }
 
 -- ## Turned round
 

@@ -54,6 +54,14 @@ fn count_of_range(from: i64, at: i64, end: i64, size: u32) -> u32
 }
 
 #[tactic(auto, using(crate::proofs::Spans::ints_more, crate::proofs::Listing::one_longer))]
+/// The integer that comes so many after another.
+fn nth_integer(at: i64, done: u32, end: i64) -> i64
+    requires { (at +ℤ pos done) <ℤ end }
+    ensures { result ≡ at +ℤ pos done }
+{
+    at + done as i64
+}
+
 /// The integers from `at` on, so many. None of them passes `end`.
 fn integers(alloc: Global, at: i64, count: u32, end: i64) -> Result<Gathered, NoMemory>
     requires { (at +ℤ pos count) ≤ℤ end }
@@ -61,7 +69,9 @@ fn integers(alloc: Global, at: i64, count: u32, end: i64) -> Result<Gathered, No
 {
     let mut all = Gathered::with_room(alloc, count as usize)?;
     for done in 0..count {
-        all = all.and(Proper::of_int(at + done as i64))?;
+        let number = nth_integer(at, done, end);
+        let one = Proper::of_int(number);
+        all = all.and(one)?;
     }
     Ok(all)
 }
