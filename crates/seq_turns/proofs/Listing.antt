@@ -1,8 +1,6 @@
 -- Lists of well-formed values.
 use Rattle.std.proofs.Common.{◌≡◌, ℕ, zero, suc, ◌+◌, ◌<◌, ◌≤◌, nat_le, Bool, true, false, List, [], ◌∷◌, ◌++◌, map, length, drop, reverse, slice_get, Some, None, ◌&&◌, refl, ap, sym, subst, ◌∙◌, rules, arith, length-append}
-use Rattle.std.specs.Prelude.{IsTrue, Bor}
-use Rattle.std.specs.declared.option.Option.{Option}
-use Rattle.std.specs.Option.{option_copied}
+use Rattle.std.specs.Prelude.{IsTrue}
 use Rattle.std.proofs.lemmas.List.{length-map, map-append, length-reverse, reverse-append}
 use Rattle.seq_base.specs.declared.thrown.Thrown.TheVariants.{Overflow}
 use Rattle.seq_values.specs.Model as M

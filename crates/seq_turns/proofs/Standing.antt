@@ -3,7 +3,7 @@ use Rattle.std.proofs.Common.{◌≡◌, ℕ, ◌+◌, max, true, List, refl, ap
 use Rattle.std.specs.Prelude.{IsTrue}
 use Rattle.seq_values.specs.Model as M
 use Rattle.seq_values.specs.Plain.{plain, plains}
-use Rattle.seq_values.specs.Layers.{Node}
+use Rattle.seq_values.specs.declared.value.Node.{Node}
 use Rattle.seq_values.specs.Depth.{depth, depth_of_all}
 use Rattle.seq_values.specs.WellFormed.{is_well_formed_node}
 use Rattle.seq_values.specs.declared.value.Value.{Value}
