@@ -59,10 +59,14 @@ impl Settled {
         self.count
     }
 
-    /// A vector of them.
+    /// A vector of them. Where none was forgotten it is the vector that is kept, shared: so all that keep it have one.
+    #[tactic(auto, using(crate::proofs::Values::take_full))]
     pub fn values(&self, alloc: Global) -> Result<PVec<Value>, NoMemory>
         ensures { IfOk result (λ v. v ≡ self.now) }
     {
+        if self.count == self.values.len() {
+            return self.values.share();
+        }
         match self.values.window(alloc, 0, self.count)? {
             Some(values) => Ok(values),
             None => unreachable!(),

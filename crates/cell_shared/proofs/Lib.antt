@@ -3,3 +3,4 @@ pub mod Quieting
 pub mod Stepping
 pub mod Turning
 pub mod Viewing
+pub mod Sent
