@@ -1,10 +1,10 @@
 use crate::nodes::{elements, made, numbers, same};
 use seq_base::Thrown;
 use seq_turns::{
-    Gathered, Grown, Made, Proper, ProperList, first_before, function_made, items_before,
+    Gathered, Made, Proper, ProperList, first_before, items_before,
     list_before, list_made, one_more, put_first, vector_made,
 };
-use seq_values::{CellId, Node, Target, Value};
+use seq_values::{CellId, Node, Value};
 use seq_vector::{NoMemory, PVec};
 use std::alloc::Global;
 use std::test::Fail;
@@ -55,7 +55,7 @@ fn nothing_is_deeper_than_256(rt: HostRuntime) -> Result<(), Fail> {
     assert!(rt; is_thrown(&put_first(alloc, deep, Proper::nil()).map_err(full)?, Thrown::Depth));
     let deep = made(nested(alloc, 256)?)?;
     let bound = ProperList::one(alloc, deep).map_err(full)?;
-    assert!(rt; is_thrown(&function_made(Target::Constantly, bound), Thrown::Depth));
+    assert!(rt; is_thrown(&items_before(alloc, bound, id).map_err(full)?, Thrown::Depth));
     Ok(())
 }
 

@@ -1,6 +1,6 @@
 use seq_turns::{
     Chunked, Gathered, Made, Proper, ProperList, Seen, Sought, Split, chunk_and_end,
-    chunk_of_cursor, first_before, list_made, put_first, seek, seek_rest, vector_made,
+    chunk_of_cursor, list_made, put_first, seek, seek_rest, vector_made,
 };
 use seq_values::{Node, Value};
 use seq_vector::NoMemory;
