@@ -1,3 +1,5 @@
+ghost use Rattle.std.specs.Prelude.{◌<◌};
+
 use seq_turns::{
     Chunked, Gathered, Made, Proper, ProperList, Seen, Sought, Split, chunk_and_end,
     chunk_of_cursor, list_made, put_first, seek, seek_rest, vector_made,
