@@ -1,10 +1,10 @@
-use crate::nodes::{elements, made, number_of, numbers};
+use crate::nodes::{elements, made, numbers, range, same};
 use seq_base::Thrown;
 use seq_turns::{
-    Gathered, Grown, Made, Proper, ProperList, first_before, function_made, items_before,
-    list_before, list_made, one_more, put_first, vector_made,
+    Gathered, Made, Proper, ProperList, first_before, items_before, list_before, list_made,
+    one_more, put_first, vector_made,
 };
-use seq_values::{CellId, Node, Target, Value};
+use seq_values::{CellId, Node, Value};
 use seq_vector::{NoMemory, PVec};
 use std::alloc::Global;
 use std::test::Fail;
@@ -26,77 +26,110 @@ fn nested(alloc: Global, levels: u32) -> Result<Made, Fail> {
     Ok(Made::Value(whole))
 }
 
-fn is_thrown(what: &Made, why: Thrown) -> bool {
+/// Whether nothing was made, for this reason.
+fn is_thrown(what: Made, why: Thrown) -> bool {
     match what {
         Made::Value(_) => false,
-        Made::Thrown(thrown) => *thrown == why,
+        Made::Thrown(thrown) => thrown == why,
+    }
+}
+
+/// nil in so many vectors, which is not too deep.
+fn deep(alloc: Global, levels: u32) -> Result<Proper, Fail> {
+    made(nested(alloc, levels)?)
+}
+
+/// Whether a value with so many levels is too deep before a part.
+fn too_deep_as_first(alloc: Global, levels: u32, id: CellId) -> Result<bool, Fail> {
+    let what = first_before(alloc, deep(alloc, levels)?, id).map_err(full)?;
+    Ok(is_thrown(what, Thrown::Depth))
+}
+
+/// Whether it is too deep in a list before a part.
+fn too_deep_in_a_list(alloc: Global, levels: u32, id: CellId) -> Result<bool, Fail> {
+    let member = deep(alloc, levels)?;
+    let members = Gathered::none(alloc).and(member).map_err(full)?;
+    let what = list_before(alloc, members, id).map_err(full)?;
+    Ok(is_thrown(what, Thrown::Depth))
+}
+
+/// Whether it is too deep in a chunk before a part.
+fn too_deep_in_a_chunk(alloc: Global, levels: u32, id: CellId) -> Result<bool, Fail> {
+    let item = deep(alloc, levels)?;
+    let items = ProperList::one(alloc, item).map_err(full)?;
+    let what = items_before(alloc, items, id).map_err(full)?;
+    Ok(is_thrown(what, Thrown::Depth))
+}
+
+fn some_part() -> Result<CellId, Fail> {
+    match CellId::of(3) {
+        Some(id) => Ok(id),
+        None => Err(Fail::from("no number")),
     }
 }
 
 #[test]
 fn nothing_is_deeper_than_256(rt: HostRuntime) -> Result<(), Fail> {
     let alloc = rt.alloc();
-    let Some(id) = CellId::of_index(3) else {
-        return Err(Fail::from("no number"));
-    };
-    assert!(rt; matches!(nested(alloc, 256)?, Made::Value(_)));
-    assert!(rt; is_thrown(&nested(alloc, 257)?, Thrown::Depth));
-    let deep = made(nested(alloc, 256)?)?;
-    assert!(rt; is_thrown(&first_before(alloc, deep, id).map_err(full)?, Thrown::Depth));
-    let fits = made(nested(alloc, 255)?)?;
-    assert!(rt; matches!(first_before(alloc, fits, id).map_err(full)?, Made::Value(_)));
-    let fits = made(nested(alloc, 254)?)?;
-    let members = Gathered::none(alloc).and(fits).map_err(full)?;
-    assert!(rt; matches!(list_before(alloc, members, id).map_err(full)?, Made::Value(_)));
-    let deep = made(nested(alloc, 255)?)?;
-    let members = Gathered::none(alloc).and(deep).map_err(full)?;
-    assert!(rt; is_thrown(&list_before(alloc, members, id).map_err(full)?, Thrown::Depth));
-    let deep = made(nested(alloc, 256)?)?;
-    assert!(rt; is_thrown(&put_first(alloc, deep, Proper::nil()).map_err(full)?, Thrown::Depth));
-    let deep = made(nested(alloc, 256)?)?;
-    let bound = ProperList::one(alloc, deep).map_err(full)?;
-    assert!(rt; is_thrown(&function_made(Target::Constantly, bound), Thrown::Depth));
+    let id = some_part()?;
+    assert!(rt; !is_thrown(nested(alloc, 256)?, Thrown::Depth));
+    assert!(rt; is_thrown(nested(alloc, 257)?, Thrown::Depth));
+    assert!(rt; too_deep_as_first(alloc, 256, id)?);
+    assert!(rt; !too_deep_as_first(alloc, 255, id)?);
+    assert!(rt; too_deep_in_a_list(alloc, 255, id)?);
+    assert!(rt; !too_deep_in_a_list(alloc, 254, id)?);
+    assert!(rt; too_deep_in_a_chunk(alloc, 256, id)?);
+    assert!(rt; !too_deep_in_a_chunk(alloc, 255, id)?);
     Ok(())
+}
+
+/// Whether 9 before a value has these elements.
+fn nine_before(alloc: Global, rest: Proper, items: &[i64]) -> Result<bool, Fail> {
+    let what = put_first(alloc, Proper::of_int(9), rest).map_err(full)?;
+    let found = elements(alloc, made(what)?, 9)?;
+    Ok(same(&found, items))
 }
 
 #[test]
 fn elements_go_before_sequences(rt: HostRuntime) -> Result<(), Fail> {
     let alloc = rt.alloc();
     let list = made(list_made(alloc, numbers(alloc, 3)?).map_err(full)?)?;
-    let whole = made(put_first(alloc, Proper::of_int(9), list).map_err(full)?)?;
-    assert!(rt; elements(alloc, whole, 9)?.as_slice() == [9, 0, 1, 2]);
-    for rest in [Proper::nil(), Proper::empty()] {
-        let whole = made(put_first(alloc, Proper::of_int(9), rest).map_err(full)?)?;
-        assert!(rt; elements(alloc, whole, 9)?.as_slice() == [9]);
-    }
-    let vector = made(vector_made(ProperList::none()))?;
-    let whole = made(put_first(alloc, Proper::of_int(9), vector).map_err(full)?)?;
-    assert!(rt; elements(alloc, whole, 9)?.as_slice() == [9]);
-    let range = Proper {
-        value: Value::Node(Node::range(0, 2)),
-    };
-    let whole = made(put_first(alloc, Proper::of_int(9), range).map_err(full)?)?;
-    assert!(rt; elements(alloc, whole, 9)?.as_slice() == [9, 0, 1]);
+    assert!(rt; nine_before(alloc, list, &[9, 0, 1, 2])?);
+    assert!(rt; nine_before(alloc, Proper::nil(), &[9])?);
+    assert!(rt; nine_before(alloc, Proper::empty(), &[9])?);
+    assert!(rt; nine_before(alloc, made(vector_made(ProperList::none()))?, &[9])?);
+    assert!(rt; nine_before(alloc, range(0, 2), &[9, 0, 1])?);
     let wrong = put_first(alloc, Proper::of_int(9), Proper::of_truth(true)).map_err(full)?;
-    assert!(rt; is_thrown(&wrong, Thrown::BadType));
+    assert!(rt; is_thrown(wrong, Thrown::BadType));
     Ok(())
+}
+
+/// Whether the integers before a part, so many, are a chunk, and the part itself where there are none.
+fn stands_before(alloc: Global, count: u32) -> Result<bool, Fail> {
+    let items = numbers(alloc, count)?.listed(alloc).map_err(full)?;
+    let whole = made(items_before(alloc, items, some_part()?).map_err(full)?)?;
+    match whole.value {
+        Value::Cell(_) => Ok(count == 0),
+        Value::Node(Node::Chunk { .. }) => Ok(count > 0),
+        _ => Ok(false),
+    }
+}
+
+/// Whether the list turned round has these elements.
+fn turned(alloc: Global, count: u32, items: &[i64]) -> Result<bool, Fail> {
+    let all = numbers(alloc, count)?.turned().listed(alloc).map_err(full)?;
+    let found = elements(alloc, made(vector_made(all))?, 9)?;
+    Ok(same(&found, items))
 }
 
 #[test]
 fn items_go_before_a_part(rt: HostRuntime) -> Result<(), Fail> {
     let alloc = rt.alloc();
-    let Some(id) = CellId::of_index(3) else {
-        return Err(Fail::from("no number"));
-    };
-    let none = made(items_before(alloc, ProperList::none(), id).map_err(full)?)?;
-    assert!(rt; matches!(none.value, Value::Cell(_)));
-    let two = numbers(alloc, 2)?.listed(alloc).map_err(full)?;
-    let some = made(items_before(alloc, two, id).map_err(full)?)?;
-    assert!(rt; matches!(some.value, Value::Node(Node::Chunk { .. })));
+    assert!(rt; stands_before(alloc, 0)?);
+    assert!(rt; stands_before(alloc, 2)?);
     let more = made(one_more(alloc, 1, PVec::new(), Proper::of_int(5)).map_err(full)?)?;
-    assert!(rt; elements(alloc, more, 9)?.as_slice() == [5]);
-    let turned = numbers(alloc, 3)?.turned().listed(alloc).map_err(full)?;
-    let whole = made(vector_made(turned))?;
-    assert!(rt; elements(alloc, whole, 9)?.as_slice() == [2, 1, 0]);
+    let found = elements(alloc, more, 9)?;
+    assert!(rt; same(&found, &[5]));
+    assert!(rt; turned(alloc, 3, &[2, 1, 0])?);
     Ok(())
 }

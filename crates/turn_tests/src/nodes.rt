@@ -1,6 +1,8 @@
+ghost use Rattle.std.specs.Prelude.{◌<◌};
+
 use seq_turns::{
     Chunked, Gathered, Made, Proper, ProperList, Seen, Sought, Split, chunk_and_end,
-    chunk_of_cursor, first_before, list_made, put_first, seek, seek_rest, vector_made,
+    chunk_of_cursor, list_made, put_first, seek, seek_rest, vector_made,
 };
 use seq_values::{Node, Value};
 use seq_vector::NoMemory;
@@ -43,6 +45,10 @@ pub(crate) fn number_of(value: &Value) -> i64 {
         Value::Int(number) => *number,
         _ => -1,
     }
+}
+
+pub(crate) fn same(found: &[i64], wanted: &[i64]) -> bool {
+    found == wanted
 }
 
 /// The elements of a value, from `seq` to `seq`.
@@ -109,7 +115,7 @@ fn vector(alloc: Global, count: u32) -> Result<Proper, Fail> {
     made(vector_made(listed(alloc, count)?))
 }
 
-fn range(from: i64, end: i64) -> Proper {
+pub(crate) fn range(from: i64, end: i64) -> Proper {
     Proper {
         value: Value::Node(Node::range(from, end)),
     }
@@ -139,57 +145,70 @@ fn after(alloc: Global, value: Proper, count: usize) -> Result<Proper, Fail> {
     Ok(left)
 }
 
+/// Whether the first chunk has these integers, and these come after it.
+fn chunk_is(
+    alloc: Global,
+    value: Proper,
+    size: u32,
+    items: &[i64],
+    after: &[i64],
+) -> Result<bool, Fail>
+    requires { 0 < size }
+{
+    match first_chunk(alloc, value, size)? {
+        Some((first, rest)) => Ok(first.as_slice() == items && rest.as_slice() == after),
+        None => Ok(false),
+    }
+}
+
+/// Whether these are the integers of a value.
+fn has(alloc: Global, value: Proper, items: &[i64]) -> Result<bool, Fail> {
+    let found = elements(alloc, value, 9)?;
+    Ok(same(&found, items))
+}
+
+/// Whether `seq` of a value has to be asked for.
+fn asks(value: Value) -> bool {
+    match value {
+        Value::Int(number) => matches!(seek(Proper::of_int(number)), Sought::Ask(_)),
+        Value::Bool(truth) => matches!(seek(Proper::of_truth(truth)), Sought::Ask(_)),
+        _ => false,
+    }
+}
+
 #[test]
 fn seq_finds_each_kind(rt: HostRuntime) -> Result<(), Fail> {
     let alloc = rt.alloc();
-    assert!(rt; elements(alloc, Proper::nil(), 9)?.is_empty());
-    assert!(rt; elements(alloc, Proper::empty(), 9)?.is_empty());
-    assert!(rt; elements(alloc, vector(alloc, 0)?, 9)?.is_empty());
-    assert!(rt; elements(alloc, range(4, 4), 9)?.is_empty());
-    assert!(rt; elements(alloc, vector(alloc, 3)?, 9)?.as_slice() == [0, 1, 2]);
-    assert!(rt; elements(alloc, heads(alloc, 3)?, 9)?.as_slice() == [0, 1, 2]);
-    assert!(rt; elements(alloc, chunk(alloc, 3)?, 9)?.as_slice() == [0, 1, 2]);
-    assert!(rt; elements(alloc, range(-1, 2), 9)?.as_slice() == [-1, 0, 1]);
-    let joined = elements(alloc, heads_before_items(alloc)?, 9)?;
-    assert!(rt; joined.as_slice() == [7, 6, 5, 0, 1]);
-    let after_two = after(alloc, vector(alloc, 4)?, 2)?;
-    assert!(rt; elements(alloc, after_two, 9)?.as_slice() == [2, 3]);
-    for asked in [Value::Int(1), Value::Bool(true)] {
-        assert!(rt; matches!(seek(Proper { value: asked }), Sought::Ask(_)));
-    }
+    assert!(rt; has(alloc, Proper::nil(), &[])?);
+    assert!(rt; has(alloc, Proper::empty(), &[])?);
+    assert!(rt; has(alloc, vector(alloc, 0)?, &[])?);
+    assert!(rt; has(alloc, range(4, 4), &[])?);
+    assert!(rt; has(alloc, vector(alloc, 3)?, &[0, 1, 2])?);
+    assert!(rt; has(alloc, heads(alloc, 3)?, &[0, 1, 2])?);
+    assert!(rt; has(alloc, chunk(alloc, 3)?, &[0, 1, 2])?);
+    assert!(rt; has(alloc, range(-1, 2), &[-1, 0, 1])?);
+    assert!(rt; has(alloc, heads_before_items(alloc)?, &[7, 6, 5, 0, 1])?);
+    assert!(rt; has(alloc, after(alloc, vector(alloc, 4)?, 2)?, &[2, 3])?);
+    assert!(rt; asks(Value::Int(1)) && asks(Value::Bool(true)));
     Ok(())
 }
 
-fn is_chunk(found: &Option<(Vec<i64>, Vec<i64>)>, items: &[i64], after: &[i64]) -> bool {
-    match found {
-        Some((first, rest)) => first.as_slice() == items && rest.as_slice() == after,
-        None => false,
-    }
-}
-
+/// A node of heads has no chunk. That of a chunk is whole, that of a range or of a vector's seq ends where the size says.
 #[test]
 fn chunks_of_nodes(rt: HostRuntime) -> Result<(), Fail> {
     let alloc = rt.alloc();
-    assert!(rt; first_chunk(alloc, heads(alloc, 3)?, 4)?.is_none());
-    let whole = first_chunk(alloc, chunk(alloc, 6)?, 4)?;
-    assert!(rt; is_chunk(&whole, &[0, 1, 2, 3, 4, 5], &[]));
-    let part = first_chunk(alloc, after(alloc, chunk(alloc, 6)?, 4)?, 4)?;
-    assert!(rt; is_chunk(&part, &[4, 5], &[]));
-    let counted = first_chunk(alloc, range(3, 9), 4)?;
-    assert!(rt; is_chunk(&counted, &[3, 4, 5, 6], &[7, 8]));
-    let counted = first_chunk(alloc, after(alloc, range(3, 9), 3)?, 4)?;
-    assert!(rt; is_chunk(&counted, &[6], &[7, 8]));
-    let last = first_chunk(alloc, after(alloc, range(3, 9), 4)?, 4)?;
-    assert!(rt; is_chunk(&last, &[7, 8], &[]));
-    let items = first_chunk(alloc, vector(alloc, 6)?, 4)?;
-    assert!(rt; is_chunk(&items, &[0, 1, 2, 3], &[4, 5]));
-    let items = first_chunk(alloc, after(alloc, vector(alloc, 6)?, 3)?, 4)?;
-    assert!(rt; is_chunk(&items, &[3], &[4, 5]));
-    let items = first_chunk(alloc, after(alloc, vector(alloc, 6)?, 4)?, 4)?;
-    assert!(rt; is_chunk(&items, &[4, 5], &[]));
-    let edge = first_chunk(alloc, range(i64::MIN, i64::MIN + 2), 4)?;
-    assert!(rt; is_chunk(&edge, &[i64::MIN, i64::MIN + 1], &[]));
-    let edge = first_chunk(alloc, range(i64::MAX - 2, i64::MAX), 1)?;
-    assert!(rt; is_chunk(&edge, &[i64::MAX - 2], &[i64::MAX - 1]));
+    assert!(rt; !chunk_is(alloc, heads(alloc, 3)?, 4, &[0, 1, 2], &[])?);
+    assert!(rt; chunk_is(alloc, chunk(alloc, 6)?, 4, &[0, 1, 2, 3, 4, 5], &[])?);
+    assert!(rt; chunk_is(alloc, after(alloc, chunk(alloc, 6)?, 4)?, 4, &[4, 5], &[])?);
+    assert!(rt; chunk_is(alloc, range(3, 9), 4, &[3, 4, 5, 6], &[7, 8])?);
+    assert!(rt; chunk_is(alloc, after(alloc, range(3, 9), 3)?, 4, &[6], &[7, 8])?);
+    assert!(rt; chunk_is(alloc, after(alloc, range(3, 9), 4)?, 4, &[7, 8], &[])?);
+    assert!(rt; chunk_is(alloc, vector(alloc, 6)?, 4, &[0, 1, 2, 3], &[4, 5])?);
+    assert!(rt; chunk_is(alloc, after(alloc, vector(alloc, 6)?, 3)?, 4, &[3], &[4, 5])?);
+    assert!(rt; chunk_is(alloc, after(alloc, vector(alloc, 6)?, 4)?, 4, &[4, 5], &[])?);
+    let least = range(i64::MIN, i64::MIN + 2);
+    assert!(rt; chunk_is(alloc, least, 4, &[i64::MIN, i64::MIN + 1], &[])?);
+    let greatest = range(i64::MAX - 2, i64::MAX);
+    assert!(rt; chunk_is(alloc, greatest, 1, &[i64::MAX - 2], &[i64::MAX - 1])?);
     Ok(())
 }
