@@ -183,6 +183,7 @@ fn a_form_after_a_thousand_claims(rt: HostRuntime) -> Result<(), Fail> {
     );
     assert!(rt; book.has_given_up() && !book.is_spent());
     assert!(rt; book.open_claim().is_none());
+    assert!(rt; matches!(book.kind(last), Some(Kind::Lazy)));
     assert!(rt; book.maker(last) == Some((0, 1_001)));
     assert!(rt; book.attempt(last, 0) == Some((1_001, ClaimEnd::Value)));
     assert!(rt; book.attempt(last, 1).is_none());
