@@ -1,8 +1,10 @@
 //! The answers of `pmap` that are left are asked as they are wanted.
-ghost use Rattle.std.specs.Prelude.{◌≡◌, ◌<◌, ◌≤◌, ◌+◌, [], ◌∷◌, length, drop, IfOk, IsTrue, None};
+ghost use Rattle.std.specs.Prelude.{◌≡◌, ◌<◌, ◌≤◌, ◌+◌, [], ◌∷◌, ◌++◌, length, drop, IfOk, IsTrue, None};
+ghost use Rattle.seq_base.specs.declared.thrown.Thrown.TheVariants.{BadType};
 ghost use Rattle.seq_plan.specs.Cursors.{stands};
 ghost use Rattle.seq_plan.specs.Lists.{items_and};
 ghost use Rattle.seq_plan.specs.Nodes.{ask_each};
+ghost use Rattle.seq_plan.specs.Plan.{ask, throw};
 ghost use Rattle.seq_turns.specs.Seen.{seen};
 ghost use Rattle.seq_turns.specs.Turning.{Takes};
 ghost use Rattle.seq_values.specs.Plain.{plain, plains};
@@ -124,7 +126,8 @@ fn derefs_asks(
     rest: Sequence,
     id: CellId,
 ) -> Next<State>
-    requires within { (length answers.items.items ≤ at) × (at < length items.items) }
+    requires within { length answers.items.items ≤ at }
+    requires some { at < length items.items }
     ensures { Takes running (ask id (λ y. ask_each (plains answers.items.items ++ y ∷ []) (plains (drop (at + 1) items.items)) (λ ys. items_and ys O.Derefs (plain rest.value ∷ [])))) result }
 {
     let chunk = taken(answers, items, at);

@@ -2,7 +2,6 @@
 ghost use Rattle.std.specs.Prelude.{◌≡◌, ◌<◌, ◌≤◌, ◌+◌, [], ◌∷◌, length, drop, IfOk, true, None};
 ghost use Rattle.seq_plan.specs.Cursors.{stands};
 ghost use Rattle.seq_plan.specs.Lists.{items_and};
-ghost use Rattle.seq_plan.specs.Plan.{give};
 ghost use Rattle.seq_plan.specs.WellFormed.{sights};
 ghost use Rattle.seq_turns.specs.Seen.{seen};
 ghost use Rattle.seq_turns.specs.Turning.{Takes};
@@ -123,6 +122,7 @@ pub(crate) fn items_done(
     Ok(makes_part(AtPart::Items { items }, Kind::Lazy, op, args))
 }
 
+#[tactic(auto, using(crate::proofs::Sequences::some_left))]
 fn rets_calls(
     alloc: Global,
     function: Proper,
@@ -151,12 +151,13 @@ fn rets_calls(
     ))
 }
 
-#[tactic(auto, using(crate::proofs::Sequences::some_left))]
 /// The chunk of which the item at a place is taken.
 pub(crate) fn taken(answers: Gathered, items: ProperList, at: usize) -> ChunkLeft
     requires within { length answers.items.items ≤ at }
     requires some { at < length items.items }
-    ensures { result ≡ record { answers = answers; items = items; at = at + 1 } }
+    ensures answers { result.answers.items.items ≡ answers.items.items }
+    ensures items { result.items.items ≡ items.items }
+    ensures at { result.at ≡ at + 1 }
 {
     ChunkLeft {
         answers,

@@ -21,6 +21,7 @@ use seq_vector::NoMemory;
 use std::alloc::Global;
 
 impl Sequence {
+    #[tactic(auto, using(crate::proofs::Sequences::part_sequence))]
     /// A part.
     pub(crate) fn of_part(id: CellId) -> Sequence
         ensures { plain result.value ≡ M.cell id }

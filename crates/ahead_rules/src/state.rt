@@ -149,3 +149,9 @@ pub(crate) enum State {
     Part(AtPart),
     Over,
 }
+
+/// A rule that runs by turns.
+#[derive(Drop)]
+pub struct RuleState {
+    pub(crate) state: State,
+}

@@ -227,9 +227,13 @@ fn step_asks(
 ) -> Result<Next<State>, NoMemory>
     ensures { IfOk result (λ r. Takes running (ask id (λ y. step (plain others.value) (rest_of (stands place)) (λ m. give_value (M.cons (y M.& M.no_values) (M.cell m))))) r) }
 {
+    let_go(values);
     let further = after_first(alloc, place)?;
     Ok(needs(State::Value(AtValue::Step { others, further }), id))
 }
+
+/// A sequence that is not needed any more.
+fn let_go(sequence: Sequence) {}
 
 /// The element's part was asked.
 pub(crate) fn step_answered(
