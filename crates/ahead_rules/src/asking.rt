@@ -41,7 +41,8 @@ pub(crate) fn derefs_at(alloc: Global, chunk: Size, what: Seen) -> Result<Next<S
 fn derefs_place(alloc: Global, chunk: Size, place: Cursor) -> Result<Next<State>, NoMemory>
     ensures { IfOk result (λ r. Takes running (left_seq (Q.Derefs chunk) (stands place)) r) }
 {
-    match chunk_of_cursor(alloc, place, chunk.elements)? {
+    let chunks = chunk_of_cursor(alloc, place, chunk.elements)?;
+    match chunks {
         Chunked::Single(place) => derefs_one(alloc, place),
         Chunked::Whole { items, rest } => derefs_chunk(alloc, items, rest),
     }
@@ -52,7 +53,8 @@ fn derefs_chunk(alloc: Global, items: ProperList, rest: Proper) -> Result<Next<S
     ensures { IfOk result (λ r. Takes running (ask_each [] (plains items.items) (λ ys. items_and ys O.Derefs (plain rest.value ∷ []))) r) }
 {
     let rest = Sequence { value: rest.value };
-    let next = derefs_next(alloc, Gathered::none(alloc), items, 0, rest)?;
+    let none = Gathered::none(alloc);
+    let next = derefs_next(alloc, none, items, 0, rest)?;
     Ok(next)
 }
 
@@ -61,12 +63,11 @@ fn derefs_one(alloc: Global, place: Cursor) -> Result<Next<State>, NoMemory>
     ensures { IfOk result (λ r. Takes running (derefs_on (stands place) None) r) }
 {
     let parts = parted(alloc, place)?;
-    match as_part(parts.first) {
-        None => Ok(no_part(parts.rest)),
-        Some(id) => Ok(needs(
-            State::Value(AtValue::DerefsOne { rest: parts.rest }),
-            id,
-        )),
+    let rest = parts.rest;
+    let part = as_part(parts.first);
+    match part {
+        None => Ok(no_part(rest)),
+        Some(id) => Ok(needs(State::Value(AtValue::DerefsOne { rest }), id)),
     }
 }
 
@@ -88,12 +89,29 @@ fn derefs_next(
     requires { (length answers.items.items ≤ at) × (at ≤ length items.items) }
     ensures { IfOk result (λ r. Takes running (ask_each (plains answers.items.items) (plains (drop at items.items)) (λ ys. items_and ys O.Derefs (plain rest.value ∷ []))) r) }
 {
-    match items.get(at)? {
+    let item = items.get(at)?;
+    match item {
         None => derefs_done(alloc, answers, items, at, rest),
-        Some(first) => match as_part(first) {
-            None => Ok(no_part_among(answers, items, rest)),
-            Some(id) => Ok(derefs_asks(answers, items, at, rest, id)),
-        },
+        Some(first) => Ok(derefs_item(answers, items, at, rest, first)),
+    }
+}
+
+#[tactic(auto, using(crate::proofs::Sequences::some_left))]
+fn derefs_item(
+    answers: Gathered,
+    items: ProperList,
+    at: usize,
+    rest: Sequence,
+    first: Proper,
+) -> Next<State>
+    requires within { length answers.items.items ≤ at }
+    requires first { drop at items.items ≡ first.value ∷ drop (at + 1) items.items }
+    ensures { Takes running (ask_each (plains answers.items.items) (plains (drop at items.items)) (λ ys. items_and ys O.Derefs (plain rest.value ∷ []))) result }
+{
+    let part = as_part(first);
+    match part {
+        None => no_part_among(answers, items, rest),
+        Some(id) => derefs_asks(answers, items, at, rest, id),
     }
 }
 
@@ -114,7 +132,8 @@ fn derefs_done(
     requires { drop at items.items ≡ [] }
     ensures { IfOk result (λ r. Takes running (ask_each (plains answers.items.items) (plains (drop at items.items)) (λ ys. items_and ys O.Derefs (plain rest.value ∷ []))) r) }
 {
-    let args = ProperList::one(alloc, rest.proper())?;
+    let source = rest.proper();
+    let args = ProperList::one(alloc, source)?;
     let next = items_done(alloc, answers, Op::Derefs, args)?;
     Ok(next)
 }
@@ -157,11 +176,7 @@ pub(crate) fn derefs_one_answered(
 ) -> Result<Next<State>, NoMemory>
     ensures { IfOk result (λ r. Takes running (left_value (V.DerefsOne rest) (plain answer.value)) r) }
 {
-    let args = ProperList::one(alloc, rest.proper())?;
-    Ok(makes_part(
-        AtPart::One { first: answer },
-        Kind::Lazy,
-        Op::Derefs,
-        args,
-    ))
+    let source = rest.proper();
+    let args = ProperList::one(alloc, source)?;
+    Ok(makes_part(AtPart::One { first: answer }, Kind::Lazy, Op::Derefs, args))
 }

@@ -1,5 +1,5 @@
 //! How each word and each term begins.
-ghost use Rattle.std.specs.Prelude.{◌≡◌, ℕ, ◌+◌, ◌<◌, [], ◌∷◌, drop, length, IfOk, IsTrue, true};
+ghost use Rattle.std.specs.Prelude.{◌≡◌, ℕ, ◌+◌, ◌<◌, [], ◌∷◌, drop, length, IfOk, true};
 ghost use Rattle.seq_base.specs.declared.thrown.Thrown.TheVariants.{BadType};
 ghost use Rattle.seq_plan.specs.Plan.{throw};
 ghost use Rattle.seq_plan.specs.WellFormed.{sights};
@@ -36,7 +36,8 @@ fn argument(args: &ProperList, at: usize) -> Result<Proper, NoMemory>
     requires { at < length args.now.items }
     ensures { IfOk result (λ v. drop at args.now.items ≡ v.value ∷ drop (at + 1) args.now.items) }
 {
-    match args.get(at)? {
+    let found = args.get(at)?;
+    match found {
         Some(value) => Ok(value),
         None => unreachable!(),
     }
@@ -146,7 +147,8 @@ fn seque(alloc: Global, args: &ProperList) -> Result<Next<State>, NoMemory>
 fn seque_of(alloc: Global, count: Proper, source: Proper) -> Result<Next<State>, NoMemory>
     ensures { IfOk result (λ r. Takes running (seque_call (plain count.value ∷ plain source.value ∷ [])) r) }
 {
-    match as_number(count) {
+    let number = as_number(count);
+    match number {
         None => Ok(no_number(source)),
         Some(count) => seque_begins(alloc, count, source),
     }
@@ -203,7 +205,8 @@ fn rets_begins(
     ensures { IfOk result (λ r. Takes running (rets_rule chunk (plain function.value) (plain source.value)) r) }
 {
     let chunk = Size { elements: chunk };
-    match seek(source) {
+    let sought = seek(source);
+    match sought {
         Sought::Now(what) => rets_at(alloc, function, chunk, what),
         Sought::Ask(value) => Ok(seeks(State::Seq(AtSeq::Rets { function, chunk }), value)),
     }
@@ -245,7 +248,8 @@ fn derefs_begins(alloc: Global, source: Proper, chunk: u32) -> Result<Next<State
     ensures { IfOk result (λ r. Takes running (derefs_rule chunk (plain source.value)) r) }
 {
     let chunk = Size { elements: chunk };
-    match seek(source) {
+    let sought = seek(source);
+    match sought {
         Sought::Now(what) => derefs_at(alloc, chunk, what),
         Sought::Ask(value) => Ok(seeks(State::Seq(AtSeq::Derefs { chunk }), value)),
     }
@@ -274,9 +278,13 @@ fn ahead(args: &ProperList) -> Result<Next<State>, NoMemory>
 fn ahead_counted(count: Proper, source: Proper) -> Result<Next<State>, NoMemory>
     ensures { IfOk result (λ r. (size : ℕ) → Takes running (ahead_term size O.Ahead (plain count.value ∷ plain source.value ∷ [])) r) }
 {
-    match as_number(count) {
+    let number = as_number(count);
+    match number {
         None => Ok(no_number(source)),
-        Some(count) => ahead_begins(count, source),
+        Some(count) => {
+            let next = ahead_begins(count, source)?;
+            Ok(next)
+        }
     }
 }
 
@@ -304,8 +312,12 @@ fn near_of(alloc: Global, source: Proper, ahead: Proper) -> Result<Next<State>, 
     requires { takes O.Near (sights (M.values (plain source.value ∷ plain ahead.value ∷ []))) ≡ true }
     ensures { IfOk result (λ r. (size : ℕ) → Takes running (ahead_term size O.Near (plain source.value ∷ plain ahead.value ∷ [])) r) }
 {
-    match as_part(ahead) {
-        Some(ahead) => near_begins(alloc, source, ahead),
+    let part = as_part(ahead);
+    match part {
+        Some(ahead) => {
+            let next = near_begins(alloc, source, ahead)?;
+            Ok(next)
+        }
         None => unreachable!(),
     }
 }

@@ -48,12 +48,25 @@ fn rets_place(
 ) -> Result<Next<State>, NoMemory>
     ensures { IfOk result (λ r. Takes running (left_seq (Q.Rets function chunk) (stands place)) r) }
 {
-    match chunk_of_cursor(alloc, place, chunk.elements)? {
+    let chunks = chunk_of_cursor(alloc, place, chunk.elements)?;
+    match chunks {
         Chunked::Single(place) => rets_one(alloc, function, place),
-        Chunked::Whole { items, rest } => {
-            rets_next(alloc, function, Gathered::none(alloc), items, 0, rest)
-        }
+        Chunked::Whole { items, rest } => rets_chunk(alloc, function, items, rest),
     }
+}
+
+/// The chunk is there.
+fn rets_chunk(
+    alloc: Global,
+    function: Proper,
+    items: ProperList,
+    rest: Proper,
+) -> Result<Next<State>, NoMemory>
+    ensures { IfOk result (λ r. Takes running (start_each (plain function.value) [] (plains items.items) (λ ys. items_and ys O.Rets (plain function.value ∷ plain rest.value ∷ []))) r) }
+{
+    let none = Gathered::none(alloc);
+    let next = rets_next(alloc, function, none, items, 0, rest)?;
+    Ok(next)
 }
 
 /// The call of the first element alone is made.
@@ -63,11 +76,9 @@ fn rets_one(alloc: Global, function: Proper, place: Cursor) -> Result<Next<State
     let parts = parted(alloc, place)?;
     let called = function.share()?;
     let args = ProperList::two(alloc, called, parts.first)?;
+    let rest = parts.rest.proper();
     Ok(makes_part(
-        AtPart::RetsOne {
-            function,
-            rest: parts.rest.proper(),
-        },
+        AtPart::RetsOne { function, rest },
         Kind::Future,
         Op::Call,
         args,
@@ -86,7 +97,8 @@ fn rets_next(
     requires { (length answers.items.items ≤ at) × (at ≤ length items.items) }
     ensures { IfOk result (λ r. Takes running (start_each (plain function.value) (plains answers.items.items) (plains (drop at items.items)) (λ ys. items_and ys O.Rets (plain function.value ∷ plain rest.value ∷ []))) r) }
 {
-    match items.get(at)? {
+    let item = items.get(at)?;
+    match item {
         None => rets_done(alloc, function, answers, items, at, rest),
         Some(first) => rets_calls(alloc, function, answers, items, at, rest, first),
     }
@@ -177,7 +189,8 @@ pub(crate) fn rets_made(
     ensures { IfOk result (λ r. Takes running (left_part (P.Rets function chunk rest) id) r) }
 {
     let ChunkLeft { answers, items, at } = chunk;
-    let answers = answers.and(Proper::of_part(id))?;
+    let part = Proper::of_part(id);
+    let answers = answers.and(part)?;
     let next = rets_next(alloc, function, answers, items, at, rest)?;
     Ok(next)
 }
@@ -191,15 +204,9 @@ pub(crate) fn rets_one_made(
 ) -> Result<Next<State>, NoMemory>
     ensures { IfOk result (λ r. Takes running (left_part (P.RetsOne function rest) id) r) }
 {
+    let first = Proper::of_part(id);
     let args = ProperList::two(alloc, function, rest)?;
-    Ok(makes_part(
-        AtPart::One {
-            first: Proper::of_part(id),
-        },
-        Kind::Lazy,
-        Op::Rets,
-        args,
-    ))
+    Ok(makes_part(AtPart::One { first }, Kind::Lazy, Op::Rets, args))
 }
 
 /// The call itself, of a future.

@@ -17,7 +17,7 @@ use seq_turns::{
     step_cursor,
 };
 use seq_values::{CellId, Kind, Node, Op, Term, Value};
-use seq_vector::NoMemory;
+use seq_vector::{NoMemory, Share};
 use std::alloc::Global;
 
 impl Sequence {
@@ -29,6 +29,14 @@ impl Sequence {
         Sequence {
             value: Proper::of_part(id).value,
         }
+    }
+
+    /// The value, with one more owner.
+    pub(crate) fn share(&self) -> Result<Proper, NoMemory>
+        ensures { IfOk result (λ copy. copy.value ≡ self.now.value) }
+    {
+        let value = self.value.share()?;
+        Ok(Proper { value })
     }
 
     /// The value alone.

@@ -71,7 +71,10 @@ pub(crate) enum AtBegin {
 #[derive(Drop)]
 pub(crate) enum AtSeq {
     /// Of the collection, each element of which is called ahead.
-    Rets { function: Proper, chunk: Size },
+    Rets {
+        function: Proper,
+        chunk: Size,
+    },
     /// Of what is further on, before the element's part is asked.
     Step {
         element: Proper,
@@ -79,15 +82,27 @@ pub(crate) enum AtSeq {
         values: Sequence,
     },
     /// Of the parts that are left to be asked.
-    Derefs { chunk: Size },
+    Derefs {
+        chunk: Size,
+    },
     /// Of the parts that are called ahead.
-    First { stepping: Stepping },
+    First {
+        stepping: Stepping,
+    },
     /// Of those after the first of them.
-    Others { first: Proper, stepping: Stepping },
+    Others {
+        first: Proper,
+        stepping: Stepping,
+    },
     /// Of the collection that is left, so many of which are to be taken.
-    Ahead { count: i64, left: Proper },
+    Ahead {
+        count: i64,
+        left: Proper,
+    },
     /// Of the collection that a future is ahead of.
-    Near { ahead: CellId },
+    Near {
+        ahead: CellId,
+    },
 }
 
 /// A rule that waits for its own step.
@@ -116,11 +131,17 @@ pub(crate) enum AtValue {
 #[derive(Drop)]
 pub(crate) enum AtPart {
     /// The sequence of the calls.
-    PmapRets { processors: u32 },
+    PmapRets {
+        processors: u32,
+    },
     /// What is left of it some calls further on.
-    PmapDrop { rets: CellId },
+    PmapDrop {
+        rets: CellId,
+    },
     /// The future that takes the first elements of the collection.
-    Seque { source: Proper },
+    Seque {
+        source: Proper,
+    },
     /// The call of an element of a chunk, and what comes after the chunk.
     Rets {
         function: Proper,
@@ -128,13 +149,23 @@ pub(crate) enum AtPart {
         rest: Proper,
     },
     /// The call of a single element, and what comes after it.
-    RetsOne { function: Proper, rest: Proper },
+    RetsOne {
+        function: Proper,
+        rest: Proper,
+    },
     /// The future that takes a further element; the element at hand, and what comes after it.
-    Near { first: Proper, rest: Proper },
+    Near {
+        first: Proper,
+        rest: Proper,
+    },
     /// What comes after the items.
-    Items { items: ProperList },
+    Items {
+        items: ProperList,
+    },
     /// What comes after the element.
-    One { first: Proper },
+    One {
+        first: Proper,
+    },
     /// The part that is given.
     Cell,
 }

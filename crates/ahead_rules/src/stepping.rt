@@ -1,16 +1,14 @@
 //! `pmap`, and the steps in which its answers are asked while further calls are started.
-ghost use Rattle.std.specs.Prelude.{◌≡◌, ◌+◌, [], ◌∷◌, IfOk, IsTrue, pos};
+ghost use Rattle.std.specs.Prelude.{◌≡◌, [], ◌∷◌, IfOk};
 ghost use Rattle.seq_base.specs.declared.thrown.Thrown.TheVariants.{BadType};
 ghost use Rattle.seq_plan.specs.Cursors.{stands};
 ghost use Rattle.seq_plan.specs.Lists.{lazily};
 ghost use Rattle.seq_plan.specs.Nodes.{rest_of, give_value};
 ghost use Rattle.seq_plan.specs.Plan.{ask, throw};
-ghost use Rattle.seq_plan.specs.WellFormed.{sight};
 ghost use Rattle.seq_turns.specs.Seen.{seen};
 ghost use Rattle.seq_turns.specs.Turning.{Takes};
 ghost use Rattle.seq_values.specs.Model as M;
-ghost use Rattle.seq_values.specs.Plain.{plain, plains};
-ghost use Rattle.seq_values.specs.WellFormedTerms.{is_seq};
+ghost use Rattle.seq_values.specs.Plain.{plain};
 ghost use Rattle.seq_values.specs.declared.words.Op.TheVariants as O;
 ghost use Rattle.ahead_rows.specs.Table.{step, step_rule, pmap_rule};
 ghost use Rattle.ahead_rules.specs.Left.{running, left_seq, left_value, left_part, stepped};
@@ -26,7 +24,7 @@ use seq_turns::{
     Next, Proper, ProperList, Seen, Sought, needs, seek, seek_rest, seeks, split_cursor, throws,
 };
 use seq_values::{CellId, Kind, Op};
-use seq_vector::{NoMemory, Share};
+use seq_vector::NoMemory;
 use std::alloc::Global;
 
 /// `pmap`: the sequence of the calls is made.
@@ -39,12 +37,7 @@ pub(crate) fn pmap_begins(
     ensures { IfOk result (λ r. Takes running (pmap_rule processors (plain function.value) (plain source.value)) r) }
 {
     let args = ProperList::two(alloc, function, source)?;
-    Ok(makes_part(
-        AtPart::PmapRets { processors },
-        Kind::Lazy,
-        Op::Rets,
-        args,
-    ))
+    Ok(makes_part(AtPart::PmapRets { processors }, Kind::Lazy, Op::Rets, args))
 }
 
 /// The sequence of the calls was made: what is left of it two more than the processors further on is made.
@@ -56,13 +49,9 @@ pub(crate) fn pmap_calls_made(
     ensures { IfOk result (λ r. Takes running (left_part (P.PmapRets processors) id) r) }
 {
     let count = Proper::of_int(2 + processors as i64);
-    let args = ProperList::two(alloc, count, Proper::of_part(id))?;
-    Ok(makes_part(
-        AtPart::PmapDrop { rets: id },
-        Kind::Lazy,
-        Op::Drop,
-        args,
-    ))
+    let part = Proper::of_part(id);
+    let args = ProperList::two(alloc, count, part)?;
+    Ok(makes_part(AtPart::PmapDrop { rets: id }, Kind::Lazy, Op::Drop, args))
 }
 
 /// Both sequences were made: the first step is.
@@ -73,9 +62,11 @@ pub(crate) fn pmap_drop_made(
 ) -> Result<Next<State>, NoMemory>
     ensures { IfOk result (λ r. Takes running (left_part (P.PmapDrop rets) id) r) }
 {
+    let values = Sequence::of_part(rets);
+    let further = Sequence::of_part(id);
     let stepping = Stepping {
-        values: Sequence::of_part(rets),
-        further: Sequence::of_part(id),
+        values,
+        further,
         before: None,
     };
     let next = steps(alloc, stepping)?;
@@ -86,8 +77,9 @@ pub(crate) fn pmap_drop_made(
 fn steps(alloc: Global, stepping: Stepping) -> Result<Next<State>, NoMemory>
     ensures { IfOk result (λ r. Takes running (step (plain stepping.values.value) (plain stepping.further.value) (stepped stepping.before)) r) }
 {
-    let value = stepping.values.value.share()?;
-    match seek(Proper { value }) {
+    let value = stepping.values.share()?;
+    let sought = seek(value);
+    match sought {
         Sought::Now(what) => first_at(alloc, stepping, what),
         Sought::Ask(value) => Ok(seeks(State::Seq(AtSeq::First { stepping }), value)),
     }
@@ -102,27 +94,30 @@ pub(crate) fn first_at(
     ensures { IfOk result (λ r. Takes running (left_seq (Q.First stepping) (seen what)) r) }
 {
     match what {
-        Seen::Nil => others_at(alloc, Proper::nil(), stepping, Seen::Nil),
+        Seen::Nil => nothing_ahead(alloc, stepping),
         Seen::At(place) => first_place(alloc, stepping, place),
     }
 }
 
+/// Nothing is called ahead any more: the next step has no element.
+fn nothing_ahead(alloc: Global, stepping: Stepping) -> Result<Next<State>, NoMemory>
+    ensures { IfOk result (λ r. Takes running (left_seq (Q.First stepping) M.nil) r) }
+{
+    let first = Proper::nil();
+    let next = others_at(alloc, first, stepping, Seen::Nil)?;
+    Ok(next)
+}
+
 /// The `seq` of what comes after the first of them is taken.
-fn first_place(
-    alloc: Global,
-    stepping: Stepping,
-    place: Cursor,
-) -> Result<Next<State>, NoMemory>
+fn first_place(alloc: Global, stepping: Stepping, place: Cursor) -> Result<Next<State>, NoMemory>
     ensures { IfOk result (λ r. Takes running (left_seq (Q.First stepping) (stands place)) r) }
 {
     let parts = split_cursor(place)?;
     let first = parts.first;
-    match seek_rest(parts.rest) {
+    let sought = seek_rest(parts.rest);
+    match sought {
         Sought::Now(what) => others_at(alloc, first, stepping, what),
-        Sought::Ask(value) => Ok(seeks(
-            State::Seq(AtSeq::Others { first, stepping }),
-            value,
-        )),
+        Sought::Ask(value) => Ok(seeks(State::Seq(AtSeq::Others { first, stepping }), value)),
     }
 }
 
@@ -141,8 +136,11 @@ pub(crate) fn others_at(
         further,
         before,
     } = stepping;
-    let args = four(alloc, first, others, values.proper(), further.proper())?;
-    Ok(makes_part(after_answer(before), Kind::Lazy, Op::Step, args))
+    let values = values.proper();
+    let further = further.proper();
+    let args = four(alloc, first, others, values, further)?;
+    let after = after_answer(before);
+    Ok(makes_part(after, Kind::Lazy, Op::Step, args))
 }
 
 /// Where the step stands when its part was made.
@@ -165,7 +163,8 @@ pub(crate) fn step_begins(
 ) -> Result<Next<State>, NoMemory>
     ensures { IfOk result (λ r. Takes running (step_rule (plain element.value) (plain others.value) (plain values.value) (plain further.value)) r) }
 {
-    match seek(further) {
+    let sought = seek(further);
+    match sought {
         Sought::Now(what) => step_at(alloc, element, others, values, what),
         Sought::Ask(value) => Ok(seeks(
             State::Seq(AtSeq::Step {
@@ -190,10 +189,23 @@ pub(crate) fn step_at(
 {
     match what {
         Seen::Nil => step_ends(alloc, element, others, values),
-        Seen::At(place) => match as_part(element) {
-            None => Ok(no_element(others, values, place)),
-            Some(id) => step_asks(alloc, id, others, values, place),
-        },
+        Seen::At(place) => step_place(alloc, element, others, values, place),
+    }
+}
+
+fn step_place(
+    alloc: Global,
+    element: Proper,
+    others: Sequence,
+    values: Sequence,
+    place: Cursor,
+) -> Result<Next<State>, NoMemory>
+    ensures { IfOk result (λ r. Takes running (left_seq (Q.Step element others values) (stands place)) r) }
+{
+    let part = as_part(element);
+    match part {
+        None => Ok(no_element(others, values, place)),
+        Some(id) => step_asks(alloc, id, others, values, place),
     }
 }
 
@@ -206,7 +218,8 @@ fn step_ends(
 ) -> Result<Next<State>, NoMemory>
     ensures { IfOk result (λ r. Takes running (lazily O.Derefs (plain values.value ∷ [])) r) }
 {
-    let args = ProperList::one(alloc, values.proper())?;
+    let source = values.proper();
+    let args = ProperList::one(alloc, source)?;
     Ok(makes_part(AtPart::Cell, Kind::Lazy, Op::Derefs, args))
 }
 

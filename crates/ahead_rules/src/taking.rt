@@ -1,6 +1,6 @@
 //! `seque`: futures take elements ahead of those that are asked.
 ghost use Rattle.std.specs.Prelude.{[], ◌∷◌, IfOk, pos, ◌<ℤ◌};
-ghost use Rattle.seq_base.specs.declared.thrown.Thrown.TheVariants.{BadType, Index};
+ghost use Rattle.seq_base.specs.declared.thrown.Thrown.TheVariants.{Index};
 ghost use Rattle.seq_plan.specs.Arguments.{at_least_one};
 ghost use Rattle.seq_plan.specs.Cursors.{stands};
 ghost use Rattle.seq_plan.specs.Plan.{seq, go, give, throw, ahead_from};
@@ -20,8 +20,8 @@ use crate::state::{AtPart, AtSeq, AtStep, AtValue, State};
 use seq_base::Thrown;
 use seq_plan::Cursor;
 use seq_turns::{
-    Next, Proper, ProperList, Rest, Seen, Sought, gives, gives_nil, needs, rest_value, seek,
-    seeks, step_cursor, throws, visits,
+    Next, Proper, ProperList, Rest, Seen, Sought, gives, gives_nil, needs, rest_value, seek, seeks,
+    step_cursor, throws, visits,
 };
 use seq_values::{CellId, Kind, Op};
 use seq_vector::NoMemory;
@@ -48,33 +48,22 @@ fn no_count(source: Proper) -> Next<State>
     throws(State::Over, Thrown::Index)
 }
 
-fn seque_ahead(
-    alloc: Global,
-    count: i64,
-    source: Proper,
-) -> Result<Next<State>, NoMemory>
+fn seque_ahead(alloc: Global, count: i64, source: Proper) -> Result<Next<State>, NoMemory>
     requires { pos 0 <ℤ count }
     ensures { IfOk result (λ r. Takes running (seque_rule count (plain source.value)) r) }
 {
     let taken = source.share()?;
-    let args = ProperList::two(alloc, Proper::of_int(count), taken)?;
-    Ok(makes_part(
-        AtPart::Seque { source },
-        Kind::Future,
-        Op::Ahead,
-        args,
-    ))
+    let number = Proper::of_int(count);
+    let args = ProperList::two(alloc, number, taken)?;
+    Ok(makes_part(AtPart::Seque { source }, Kind::Future, Op::Ahead, args))
 }
 
 /// That future was made: the sequence itself is.
-pub(crate) fn seque_made(
-    alloc: Global,
-    source: Proper,
-    id: CellId,
-) -> Result<Next<State>, NoMemory>
+pub(crate) fn seque_made(alloc: Global, source: Proper, id: CellId) -> Result<Next<State>, NoMemory>
     ensures { IfOk result (λ r. Takes running (left_part (P.Seque source) id) r) }
 {
-    let args = ProperList::two(alloc, source, Proper::of_part(id))?;
+    let part = Proper::of_part(id);
+    let args = ProperList::two(alloc, source, part)?;
     Ok(makes_part(AtPart::Cell, Kind::Lazy, Op::Near, args))
 }
 
@@ -93,7 +82,8 @@ fn ahead_on(count: i64, left: Proper) -> Result<Next<State>, NoMemory>
     ensures { IfOk result (λ r. Takes running (seq (plain left.value) (λ s. go ahead_from (M.int count ∷ plain left.value ∷ s ∷ []) give)) r) }
 {
     let value = left.share()?;
-    match seek(value) {
+    let sought = seek(value);
+    match sought {
         Sought::Now(what) => Ok(ahead_at(count, left, what)),
         Sought::Ask(value) => Ok(seeks(State::Seq(AtSeq::Ahead { count, left }), value)),
     }
@@ -128,11 +118,7 @@ fn ahead_goes(count: i64, left: Proper, place: Cursor) -> Next<State>
 fn let_go(value: Proper) {}
 
 /// An element was taken.
-pub(crate) fn ahead_step(
-    alloc: Global,
-    count: i64,
-    place: Cursor,
-) -> Result<Next<State>, NoMemory>
+pub(crate) fn ahead_step(alloc: Global, count: i64, place: Cursor) -> Result<Next<State>, NoMemory>
     ensures { IfOk result (λ r. Takes running (left_step (T.Ahead count place)) r) }
 {
     let rest = step_cursor(place)?;
@@ -170,7 +156,8 @@ fn ahead_within(count: i64, place: Cursor) -> Next<State>
 pub(crate) fn ahead_of_begins(before: Proper) -> Next<State>
     ensures { Takes running (ahead_of_rule (plain before.value)) result }
 {
-    match as_part(before) {
+    let part = as_part(before);
+    match part {
         None => throws(State::Over, Thrown::BadType),
         Some(id) => needs(State::Value(AtValue::AheadOf), id),
     }
@@ -192,18 +179,15 @@ pub(crate) fn near_begins(
 ) -> Result<Next<State>, NoMemory>
     ensures { IfOk result (λ r. Takes running (near_rule (plain source.value) (M.cell ahead)) r) }
 {
-    match seek(source) {
+    let sought = seek(source);
+    match sought {
         Sought::Now(what) => near_at(alloc, ahead, what),
         Sought::Ask(value) => Ok(seeks(State::Seq(AtSeq::Near { ahead }), value)),
     }
 }
 
 /// The seq of the collection is there.
-pub(crate) fn near_at(
-    alloc: Global,
-    ahead: CellId,
-    what: Seen,
-) -> Result<Next<State>, NoMemory>
+pub(crate) fn near_at(alloc: Global, ahead: CellId, what: Seen) -> Result<Next<State>, NoMemory>
     ensures { IfOk result (λ r. Takes running (left_seq (Q.Near ahead) (seen what)) r) }
 {
     match what {
@@ -213,20 +197,16 @@ pub(crate) fn near_at(
 }
 
 /// One more future is started.
-fn near_place(
-    alloc: Global,
-    ahead: CellId,
-    place: Cursor,
-) -> Result<Next<State>, NoMemory>
+fn near_place(alloc: Global, ahead: CellId, place: Cursor) -> Result<Next<State>, NoMemory>
     ensures { IfOk result (λ r. Takes running (left_seq (Q.Near ahead) (stands place)) r) }
 {
     let parts = parted(alloc, place)?;
-    let args = ProperList::one(alloc, Proper::of_part(ahead))?;
+    let first = parts.first;
+    let rest = parts.rest.proper();
+    let part = Proper::of_part(ahead);
+    let args = ProperList::one(alloc, part)?;
     Ok(makes_part(
-        AtPart::Near {
-            first: parts.first,
-            rest: parts.rest.proper(),
-        },
+        AtPart::Near { first, rest },
         Kind::Future,
         Op::AheadOf,
         args,
@@ -242,11 +222,7 @@ pub(crate) fn near_made(
 ) -> Result<Next<State>, NoMemory>
     ensures { IfOk result (λ r. Takes running (left_part (P.Near first rest) id) r) }
 {
-    let args = ProperList::two(alloc, rest, Proper::of_part(id))?;
-    Ok(makes_part(
-        AtPart::One { first },
-        Kind::Lazy,
-        Op::Near,
-        args,
-    ))
+    let part = Proper::of_part(id);
+    let args = ProperList::two(alloc, rest, part)?;
+    Ok(makes_part(AtPart::One { first }, Kind::Lazy, Op::Near, args))
 }

@@ -17,12 +17,8 @@ use crate::state::{AtBegin, AtPart, AtSeq, AtStep, AtValue, Called, RuleState, S
 use crate::stepping::{
     first_at, others_at, pmap_calls_made, pmap_drop_made, step_answered, step_at,
 };
-use crate::taking::{
-    ahead_at, ahead_of_answered, ahead_step, near_at, near_made, seque_made,
-};
-use seq_turns::{
-    Next, Proper, Seen, gives, gives_first_before, gives_items_before, seen_of,
-};
+use crate::taking::{ahead_at, ahead_of_answered, ahead_step, near_at, near_made, seque_made};
+use seq_turns::{Next, Proper, Seen, gives, gives_first_before, gives_items_before, seen_of};
 use seq_values::{Answer, Builtin, CellId, Term, Turn, Value};
 use seq_vector::{NoMemory, PVec};
 use std::alloc::Global;

@@ -1,0 +1,10 @@
+use Rattle.std.proofs.Common.{sym, ◌∙◌}
+use Rattle.seq_values.specs.Plain.{plain}
+use Rattle.ahead_rules.proofs.Turns.{ahead_number, ahead_no_number}
+use Rattle.ahead_rules.proofs.beginning.ahead_counted.Goals as goal
+
+pub returns-in-None : goal.returns-in-None
+returns-in-None c = λ size. ahead_no_number size (plain c.args.count.value) (plain c.args.source.value) c.no_number.result (sym c.as_number-number.ensures ∙ c.in-None.is) c.no_number.ensures
+
+pub returns-in-Some : goal.returns-in-Some
+returns-in-Some c = λ size. ahead_number size (plain c.args.count.value) (plain c.args.source.value) c.in-Some.count c.in_ok-next.next (sym c.as_number-number.ensures ∙ c.in-Some.is) c.in_ok-next.ensures

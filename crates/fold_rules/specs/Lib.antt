@@ -1,0 +1,4 @@
+pub mod Stages
+pub mod Left
+pub mod Looking
+pub mod Layers
