@@ -22,7 +22,7 @@ use Rattle.seq_plan.specs.Lists.{list_of, put_before, with_first}
 use Rattle.seq_plan.proofs.Depths.{depth_agrees}
 use Rattle.seq_plan.proofs.CursorLemmas.{plain_cons, plain_chunk, plain_vec_seq, plain_empty, list_values}
 use Rattle.seq_turns.proofs.Seeing.{plain_range, plain_vector}
-use Rattle.seq_turns.specs.Making.{Makes}
+use Rattle.seq_turns.specs.Making.{made, Makes}
 use Rattle.seq_turns.specs.declared.made.Made.{Made}
 use Rattle.seq_turns.specs.declared.made.Made.TheVariants as R
 use Rattle.seq_turns.specs.declared.proper.Proper.{Proper}
@@ -273,3 +273,31 @@ module _ (x : M.Value ℕ) (m : Made) where
   pub before_no_items : (kept : ℕ) (ys : List Value) → length ys ≡ 0 → Before (plain V.Nil) → First (plain (V.Vector kept ys))
   before_no_items kept [] b h = subst First (sym (plain_vector kept [])) (subst Before plain_nil h)
   before_no_items kept (y ∷ ys) b h = absurd cc
+
+  -- what is no sequence
+  abbrev Wrong : M.Value ℕ → Type 0
+  Wrong s = (k : M.Value ℕ → Plan ℕ) → with_first x s k ≡ throw E.BadType
+
+  wrong : (v s : M.Value ℕ) → v ≡ s → Wrong s → m ≡ R.Thrown E.BadType → First v
+  wrong v s e w t = λ k. subst Wrong (sym e) w k ∙ sym (ap (λ n. made n k) t)
+
+  pub before_bool : (b : Bool) → m ≡ R.Thrown E.BadType → First (plain (V.Bool b))
+  before_bool b t = wrong (plain (V.Bool b)) (M.bool b) (search (rules, the_lemmas)) (λ k. refl) t
+
+  pub before_int : (n : ℤ) → m ≡ R.Thrown E.BadType → First (plain (V.Int n))
+  before_int n t = wrong (plain (V.Int n)) (M.int n) (search (rules, the_lemmas)) (λ k. refl) t
+
+  pub before_keyword : (name : List ℕ) → m ≡ R.Thrown E.BadType → First (plain (V.Keyword name))
+  before_keyword name t = wrong (plain (V.Keyword name)) (M.keyword name) (search (rules, the_lemmas)) (λ k. refl) t
+
+  pub before_text : (bytes : List ℕ) → m ≡ R.Thrown E.BadType → First (plain (V.Text bytes))
+  before_text bytes t = wrong (plain (V.Text bytes)) (M.text bytes) (search (rules, the_lemmas)) (λ k. refl) t
+
+  pub before_function : (f : FnValue) → m ≡ R.Thrown E.BadType → First (plain (V.Function f))
+  before_function f t = wrong (plain (V.Function f)) (M.function f.target (M.values (plains f.bound))) (plain_function f.target f.depth f.bound) (λ k. refl) t
+
+  plain_reduced : (kept : ℕ) (held : Value) → plain (V.Reduced kept held) ≡ M.reduced (plain held)
+  plain_reduced kept held = search (rules, the_lemmas)
+
+  pub before_reduced : (kept : ℕ) (held : Value) → m ≡ R.Thrown E.BadType → First (plain (V.Reduced kept held))
+  before_reduced kept held t = wrong (plain (V.Reduced kept held)) (M.reduced (plain held)) (plain_reduced kept held) (λ k. refl) t

@@ -1,5 +1,5 @@
 -- Lists of well-formed values.
-use Rattle.std.proofs.Common.{◌≡◌, ℕ, zero, suc, ◌+◌, ◌<◌, ◌≤◌, nat_le, Bool, true, false, List, [], ◌∷◌, ◌++◌, length, drop, reverse, slice_get, Some, None, ◌&&◌, refl, ap, sym, subst, ◌∙◌, rules, arith, length-append}
+use Rattle.std.proofs.Common.{◌≡◌, ℕ, zero, suc, ◌+◌, ◌<◌, ◌≤◌, nat_le, Bool, true, false, List, [], ◌∷◌, ◌++◌, map, length, drop, reverse, slice_get, Some, None, ◌&&◌, refl, ap, sym, subst, ◌∙◌, rules, arith, length-append}
 use Rattle.std.specs.Prelude.{IsTrue, Bor}
 use Rattle.std.specs.declared.option.Option.{Option}
 use Rattle.std.specs.Option.{option_copied}
@@ -7,7 +7,9 @@ use Rattle.std.proofs.lemmas.List.{length-map, map-append, length-reverse, rever
 use Rattle.seq_base.specs.declared.thrown.Thrown.TheVariants.{Overflow}
 use Rattle.seq_values.specs.Model as M
 use Rattle.seq_values.specs.Plain.{plain, plains}
-use Rattle.seq_values.specs.WellFormed.{is_well_formed, are_well_formed}
+use Rattle.seq_values.specs.WellFormed.{is_well_formed, are_well_formed, sight_of}
+use Rattle.seq_values.specs.WellFormedTerms.{takes}
+use Rattle.seq_values.specs.declared.words.Op.{Op}
 use Rattle.seq_values.specs.declared.value.Value.{Value}
 use Rattle.seq_values.proofs.DepthLemmas.{and_parts, both}
 use Rattle.seq_values.proofs.WellFormedLemmas.{one_well, well_joined, member_well}
@@ -82,3 +84,12 @@ turned_long xs h = omega (arith, length-reverse xs)
 
 pub one_longer : (xs ys : List Value) (x : Value) (n : ℕ) → length xs ≡ n → ys ≡ xs ++ x ∷ [] → length ys ≡ n + 1
 one_longer xs ys x n e p = ap length p ∙ length-append xs (x ∷ []) ∙ ap (λ m. m + 1) e
+
+-- ## Terms
+
+-- of the same arguments
+pub takes_same : (op : Op) (xs ys : List Value) → ys ≡ xs → IsTrue (takes op (map sight_of xs)) → IsTrue (takes op (map sight_of ys))
+takes_same op xs ys e h = subst (λ zs. IsTrue (takes op (map sight_of zs))) (sym e) h
+
+pub term_same : (op : Op) (xs ys : List Value) (t : M.Term ℕ) → ys ≡ xs → t ≡ record { op = op; args = plains ys } → t ≡ record { op = op; args = plains xs }
+term_same op xs ys t e h = h ∙ ap (λ zs. record { op = op; args = plains zs }) e

@@ -84,7 +84,7 @@ module _ (size : ℕ) (from at end : ℤ) (some : 0 < size) (begun : int_le from
       let e : int_lt at end ≡ true = grind (arith, ints) in
       rw (e, stopped) (grind (arith, ints))
 
-  bounded : at +ℤ pos (min next left) ≤ℤ end
+  bounded : (at +ℤ pos (min next left)) ≤ℤ end
   bounded =
       let l : end -ℤ at ≡ pos left = between at end (grind (arith, ints)) in
       grind (arith, ints)
@@ -95,8 +95,8 @@ module _ (size : ℕ) (from at end : ℤ) (some : 0 < size) (begun : int_le from
   pub range_stopped : (n : ℕ) → n ≡ min next left → at +ℤ pos n ≡ range_stop size from at end
   range_stopped n e = ap (λ k. at +ℤ pos k) e ∙ sym stopped
 
-  pub range_within : (n : ℕ) → n ≡ min next left → at +ℤ pos n ≤ℤ end
-  range_within n e = subst (λ k. at +ℤ pos k ≤ℤ end) (sym e) bounded
+  pub range_within : (n : ℕ) → n ≡ min next left → (at +ℤ pos n) ≤ℤ end
+  range_within n e = subst (λ k. (at +ℤ pos k) ≤ℤ end) (sym e) bounded
 
 pub ints_more : (at : ℤ) (n : ℕ) (x : M.Value ℕ) → x ≡ M.int (at +ℤ pos n) → ints_from at (n + 1) ≡ ints_from at n ++ x ∷ []
 ints_more at zero x e =

@@ -45,7 +45,7 @@ fn count_of_range(from: i64, at: i64, end: i64, size: u32) -> u32
     requires some { 0 < size }
     ensures count { result ≡ range_count size from at end }
     ensures stop { at +ℤ pos result ≡ range_stop size from at end }
-    ensures bound { at +ℤ pos result ≤ℤ end }
+    ensures bound { (at +ℤ pos result) ≤ℤ end }
 {
     let done = at.abs_diff(from);
     let left = end.abs_diff(at);
@@ -56,7 +56,7 @@ fn count_of_range(from: i64, at: i64, end: i64, size: u32) -> u32
 #[tactic(auto, using(crate::proofs::Spans::ints_more, crate::proofs::Listing::one_longer))]
 /// The integers from `at` on, so many. None of them passes `end`.
 fn integers(alloc: Global, at: i64, count: u32, end: i64) -> Result<Gathered, NoMemory>
-    requires { at +ℤ pos count ≤ℤ end }
+    requires { (at +ℤ pos count) ≤ℤ end }
     ensures { IfOk result (λ all. plains all.items.items ≡ ints_from at count) }
 {
     let mut all = Gathered::with_room(alloc, count as usize)?;
