@@ -1,3 +1,3 @@
 pub mod Sequences
 pub mod Fits
-pub mod Turns
+pub mod Moves

@@ -17,7 +17,7 @@ ghost use Rattle.ahead_rules.specs.declared.state.AtSeq.TheVariants as Q;
 ghost use Rattle.ahead_rules.specs.declared.state.AtValue.TheVariants as V;
 
 use crate::calling::{items_done, taken};
-use crate::handing::{as_part, makes_part, parted};
+use crate::handing::{as_part, makes_part, taken_apart};
 use crate::state::{AtPart, AtValue, ChunkLeft, Sequence, Size, State};
 use seq_base::Thrown;
 use seq_plan::Cursor;
@@ -62,7 +62,7 @@ fn derefs_chunk(alloc: Global, items: ProperList, rest: Proper) -> Result<Next<S
 fn derefs_one(alloc: Global, place: Cursor) -> Result<Next<State>, NoMemory>
     ensures { IfOk result (λ r. Takes running (derefs_on (stands place) None) r) }
 {
-    let parts = parted(alloc, place)?;
+    let parts = taken_apart(alloc, place)?;
     let rest = parts.rest;
     let part = as_part(parts.first);
     match part {

@@ -45,7 +45,7 @@ fn argument(args: &ProperList, at: usize) -> Result<Proper, NoMemory>
 
 #[tactic(auto, using(crate::proofs::Fits::one_read))]
 /// The only argument.
-fn only(args: &ProperList) -> Result<Proper, NoMemory>
+fn only_argument(args: &ProperList) -> Result<Proper, NoMemory>
     requires { length args.now.items ≡ 1 }
     ensures { IfOk result (λ v. args.now.items ≡ v.value ∷ []) }
 {
@@ -55,7 +55,7 @@ fn only(args: &ProperList) -> Result<Proper, NoMemory>
 
 #[tactic(auto, using(crate::proofs::Fits::two_read))]
 /// The two arguments.
-fn two(args: &ProperList) -> Result<Two, NoMemory>
+fn two_arguments(args: &ProperList) -> Result<Two, NoMemory>
     requires { length args.now.items ≡ 2 }
     ensures { IfOk result (λ p. args.now.items ≡ p.first.value ∷ p.second.value ∷ []) }
 {
@@ -127,7 +127,7 @@ fn pmap(alloc: Global, args: &ProperList, processors: u32) -> Result<Next<State>
     if args.len() != 2 {
         return Ok(throws(State::Over, Thrown::Arity));
     }
-    let pair = two(args)?;
+    let pair = two_arguments(args)?;
     let next = pmap_begins(alloc, processors, pair.first, pair.second)?;
     Ok(next)
 }
@@ -139,7 +139,7 @@ fn seque(alloc: Global, args: &ProperList) -> Result<Next<State>, NoMemory>
     if args.len() != 2 {
         return Ok(throws(State::Over, Thrown::Arity));
     }
-    let pair = two(args)?;
+    let pair = two_arguments(args)?;
     let next = seque_of(alloc, pair.first, pair.second)?;
     Ok(next)
 }
@@ -189,7 +189,7 @@ fn rets(alloc: Global, args: &ProperList, chunk: u32) -> Result<Next<State>, NoM
     requires fit { takes O.Rets (sights (M.values (plains args.now.items))) ≡ true }
     ensures { IfOk result (λ r. Takes running (ahead_term chunk O.Rets (plains args.now.items)) r) }
 {
-    let pair = two(args)?;
+    let pair = two_arguments(args)?;
     let next = rets_begins(alloc, pair.first, pair.second, chunk)?;
     Ok(next)
 }
@@ -237,7 +237,7 @@ fn derefs(alloc: Global, args: &ProperList, chunk: u32) -> Result<Next<State>, N
     requires fit { takes O.Derefs (sights (M.values (plains args.now.items))) ≡ true }
     ensures { IfOk result (λ r. Takes running (ahead_term chunk O.Derefs (plains args.now.items)) r) }
 {
-    let source = only(args)?;
+    let source = only_argument(args)?;
     let next = derefs_begins(alloc, source, chunk)?;
     Ok(next)
 }
@@ -260,7 +260,7 @@ fn call(alloc: Global, args: &ProperList) -> Result<Next<State>, NoMemory>
     requires { takes O.Call (sights (M.values (plains args.now.items))) ≡ true }
     ensures { IfOk result (λ r. (size : ℕ) → Takes running (ahead_term size O.Call (plains args.now.items)) r) }
 {
-    let pair = two(args)?;
+    let pair = two_arguments(args)?;
     let next = call_begins(alloc, pair.first, pair.second)?;
     Ok(next)
 }
@@ -270,7 +270,7 @@ fn ahead(args: &ProperList) -> Result<Next<State>, NoMemory>
     requires { takes O.Ahead (sights (M.values (plains args.now.items))) ≡ true }
     ensures { IfOk result (λ r. (size : ℕ) → Takes running (ahead_term size O.Ahead (plains args.now.items)) r) }
 {
-    let pair = two(args)?;
+    let pair = two_arguments(args)?;
     let next = ahead_counted(pair.first, pair.second)?;
     Ok(next)
 }
@@ -293,7 +293,7 @@ fn ahead_of(args: &ProperList) -> Result<Next<State>, NoMemory>
     requires { takes O.AheadOf (sights (M.values (plains args.now.items))) ≡ true }
     ensures { IfOk result (λ r. (size : ℕ) → Takes running (ahead_term size O.AheadOf (plains args.now.items)) r) }
 {
-    let before = only(args)?;
+    let before = only_argument(args)?;
     Ok(ahead_of_begins(before))
 }
 
@@ -302,7 +302,7 @@ fn near(alloc: Global, args: &ProperList) -> Result<Next<State>, NoMemory>
     requires { takes O.Near (sights (M.values (plains args.now.items))) ≡ true }
     ensures { IfOk result (λ r. (size : ℕ) → Takes running (ahead_term size O.Near (plains args.now.items)) r) }
 {
-    let pair = two(args)?;
+    let pair = two_arguments(args)?;
     let next = near_of(alloc, pair.first, pair.second)?;
     Ok(next)
 }

@@ -15,7 +15,7 @@ ghost use Rattle.ahead_rules.specs.declared.state.AtSeq.TheVariants as Q;
 ghost use Rattle.ahead_rules.specs.declared.state.AtValue.TheVariants as V;
 ghost use Rattle.ahead_rules.specs.declared.state.AtPart.TheVariants as P;
 
-use crate::handing::{makes_part, parted};
+use crate::handing::{makes_part, taken_apart};
 use crate::state::{AtPart, AtValue, ChunkLeft, Size, State};
 use seq_plan::Cursor;
 use seq_turns::{
@@ -73,7 +73,7 @@ fn rets_chunk(
 fn rets_one(alloc: Global, function: Proper, place: Cursor) -> Result<Next<State>, NoMemory>
     ensures { IfOk result (λ r. Takes running (rets_on (plain function.value) (stands place) None) r) }
 {
-    let parts = parted(alloc, place)?;
+    let parts = taken_apart(alloc, place)?;
     let called = function.share()?;
     let args = ProperList::two(alloc, called, parts.first)?;
     let rest = parts.rest.proper();

@@ -65,7 +65,7 @@ pub(crate) fn after_first(alloc: Global, place: Cursor) -> Result<Sequence, NoMe
 }
 
 /// The first element, and what comes after it as a value.
-pub(crate) fn parted(alloc: Global, place: Cursor) -> Result<Parted, NoMemory>
+pub(crate) fn taken_apart(alloc: Global, place: Cursor) -> Result<Parted, NoMemory>
     ensures first { IfOk result (λ p. plain p.first.value ≡ first_of (stands place)) }
     ensures rest { IfOk result (λ p. plain p.rest.value ≡ rest_of (stands place)) }
 {

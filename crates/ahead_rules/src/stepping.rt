@@ -8,6 +8,7 @@ ghost use Rattle.seq_plan.specs.Plan.{ask, throw};
 ghost use Rattle.seq_turns.specs.Seen.{seen};
 ghost use Rattle.seq_turns.specs.Turning.{Takes};
 ghost use Rattle.seq_values.specs.Model as M;
+ghost use Rattle.seq_values.specs.Model.{◌&◌};
 ghost use Rattle.seq_values.specs.Plain.{plain};
 ghost use Rattle.seq_values.specs.declared.words.Op.TheVariants as O;
 ghost use Rattle.ahead_rows.specs.Table.{step, step_rule, pmap_rule};
@@ -238,7 +239,7 @@ fn step_asks(
     values: Sequence,
     place: Cursor,
 ) -> Result<Next<State>, NoMemory>
-    ensures { IfOk result (λ r. Takes running (ask id (λ y. step (plain others.value) (rest_of (stands place)) (λ m. give_value (M.cons (y M.& M.no_values) (M.cell m))))) r) }
+    ensures { IfOk result (λ r. Takes running (ask id (λ y. step (plain others.value) (rest_of (stands place)) (λ m. give_value (M.cons (y & M.no_values) (M.cell m))))) r) }
 {
     let_go(values);
     let further = after_first(alloc, place)?;

@@ -15,7 +15,7 @@ ghost use Rattle.ahead_rules.specs.declared.state.AtStep.TheVariants as T;
 ghost use Rattle.ahead_rules.specs.declared.state.AtValue.TheVariants as V;
 ghost use Rattle.ahead_rules.specs.declared.state.AtPart.TheVariants as P;
 
-use crate::handing::{as_part, makes_part, parted};
+use crate::handing::{as_part, makes_part, taken_apart};
 use crate::state::{AtPart, AtSeq, AtStep, AtValue, State};
 use seq_base::Thrown;
 use seq_plan::Cursor;
@@ -200,7 +200,7 @@ pub(crate) fn near_at(alloc: Global, ahead: CellId, what: Seen) -> Result<Next<S
 fn near_place(alloc: Global, ahead: CellId, place: Cursor) -> Result<Next<State>, NoMemory>
     ensures { IfOk result (λ r. Takes running (left_seq (Q.Near ahead) (stands place)) r) }
 {
-    let parts = parted(alloc, place)?;
+    let parts = taken_apart(alloc, place)?;
     let first = parts.first;
     let rest = parts.rest.proper();
     let part = Proper::of_part(ahead);

@@ -1,2 +1,3 @@
 pub mod Walking
 pub mod Entering
+pub mod Reads

@@ -127,3 +127,62 @@ fn folder_layer(kind: FolderKind, function: FnValue) -> Result<Layer, NoMemory>
     let stage = stage_of(kind, bound.first);
     Ok(Layer::Over(stage, bound.source))
 }
+
+/// What a reducer value binds: what its word was given, and the collection.
+fn bound_of(function: FnValue) -> Result<Bound, NoMemory>
+    requires well { IsTrue (is_well_formed_function function) }
+    requires two { length function.bound ≡ 2 }
+    ensures { IfOk result (λ b. function.bound ≡ b.first.value ∷ b.source.value ∷ []) }
+{
+    let bound = ProperList {
+        items: function.bound,
+    };
+    let pair = two_arguments(&bound)?;
+    let_go(bound);
+    Ok(Bound {
+        first: pair.first,
+        source: pair.second,
+    })
+}
+
+/// Values that are not needed any more.
+fn let_go(values: ProperList) {}
+
+/// The stage of a reducer value of that kind.
+pub(crate) fn stage_of(kind: FolderKind, first: Proper) -> Stage
+    requires room { depth first.value ≤ 255 }
+    requires number { is_bound kind (plain first.value) ≡ true }
+    ensures stage { stage_value result ≡ reducer_stage kind (plain first.value) }
+    ensures state { begins_with (stage_value result) ≡ state_value result }
+    ensures splits { is_splittable result ≡ splits_kind kind }
+{
+    match kind {
+        FolderKind::Map => stage_that(Calling::Map, first),
+        FolderKind::Filter => stage_that(Calling::Filter, first),
+        FolderKind::Remove => stage_that(Calling::Remove, first),
+        FolderKind::Mapcat => stage_that(Calling::Mapcat, first),
+        FolderKind::TakeWhile => stage_that(Calling::TakeWhile, first),
+        FolderKind::Take => {
+            let number = as_number(first);
+            match number {
+                Some(count) => Stage::Take { count, left: count },
+                None => unreachable!(),
+            }
+        }
+    }
+}
+
+/// A stage that calls its function.
+fn stage_that(kind: Calling, function: Proper) -> Stage
+    requires { depth function.value ≤ 255 }
+    ensures stage { stage_value result ≡ M.function (T.Xf (xf_of kind)) (plain function.value & M.no_values) }
+    ensures state { state_value result ≡ M.nil }
+    ensures splits { is_splittable result ≡ splits_calling kind }
+{
+    Stage::Calls {
+        kind,
+        function: Bindable {
+            value: function.value,
+        },
+    }
+}

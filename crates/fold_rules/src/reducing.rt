@@ -174,7 +174,7 @@ struct Outcome {
 }
 
 /// The answer, and what goes on with it. All else is let go.
-fn outcome(reducing: Reducing) -> Outcome
+fn came_to(reducing: Reducing) -> Outcome
     ensures after { result.after ≡ reducing.after }
     ensures answer { result.answer ≡ reducing.answer }
 {
@@ -186,7 +186,7 @@ fn outcome(reducing: Reducing) -> Outcome
 fn ends(reducing: Reducing) -> Next<State>
     ensures { Takes running (ended reducing.after (plain reducing.answer.value)) result }
 {
-    let out = outcome(reducing);
+    let out = came_to(reducing);
     after_answer(out.after, out.answer)
 }
 
@@ -273,7 +273,8 @@ pub(crate) fn goes_on(reducing: Reducing) -> Result<Next<State>, NoMemory>
                 walks,
                 after,
             };
-            match seek_rest(rest) {
+            let sought = seek_rest(rest);
+            match sought {
                 Sought::Now(what) => walk_at(reducing, later, what),
                 Sought::Ask(value) => Ok(seeks(
                     State::Seq(AtSeq::Walk { reducing, later }),
@@ -325,7 +326,6 @@ pub(crate) fn walks_from(
 }
 
 /// A value enters the last `later` of the stages.
-#[cycle(stages)]
 pub(crate) fn enter_at(
     alloc: Global,
     reducing: Reducing,

@@ -1,4 +1,4 @@
-use Rattle.ahead_rules.proofs.Turns.{derefs_answer}
+use Rattle.ahead_rules.proofs.Moves.{derefs_answer}
 use Rattle.ahead_rules.proofs.asking.derefs_answered.Goals as goal
 
 pub returns : goal.returns

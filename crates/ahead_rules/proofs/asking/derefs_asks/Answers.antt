@@ -1,4 +1,4 @@
-use Rattle.ahead_rules.proofs.Turns.{derefs_ask}
+use Rattle.ahead_rules.proofs.Moves.{derefs_ask}
 use Rattle.ahead_rules.proofs.asking.derefs_asks.Goals as goal
 
 pub returns : goal.returns

@@ -1,6 +1,6 @@
 use Rattle.std.proofs.Common.{drop, ap, ◌∙◌, ◌∷◌, []}
 use Rattle.seq_values.specs.Plain.{plain, plains}
-use Rattle.ahead_rules.proofs.Turns.{derefs_ends}
+use Rattle.ahead_rules.proofs.Moves.{derefs_ends}
 use Rattle.ahead_rules.proofs.asking.derefs_done.Goals as goal
 
 pub returns : goal.returns

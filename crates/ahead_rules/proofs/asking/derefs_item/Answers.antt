@@ -2,7 +2,7 @@ use Rattle.std.proofs.Common.{sym, ◌∙◌, ◌∷◌, [], ◌+◌, drop}
 use Rattle.seq_values.specs.Plain.{plain, plains}
 use Rattle.seq_plan.specs.Lists.{items_and}
 use Rattle.seq_values.specs.declared.words.Op.TheVariants as O
-use Rattle.ahead_rules.proofs.Turns.{each_part, each_none}
+use Rattle.ahead_rules.proofs.Moves.{each_part, each_none}
 use Rattle.ahead_rules.proofs.asking.derefs_item.Goals as goal
 
 pub returns-in-None : goal.returns-in-None

@@ -1,6 +1,6 @@
 use Rattle.std.proofs.Common.{sym, ◌∙◌}
 use Rattle.seq_plan.specs.Cursors.{stands}
-use Rattle.ahead_rules.proofs.Turns.{derefs_single, derefs_no_single}
+use Rattle.ahead_rules.proofs.Moves.{derefs_single, derefs_no_single}
 use Rattle.ahead_rules.proofs.asking.derefs_one.Goals as goal
 
 pub returns-in-None : goal.returns-in-None

@@ -1,6 +1,6 @@
 use Rattle.std.proofs.Common.{ap, refl, ◌∙◌, ◌∷◌, []}
 use Rattle.seq_values.specs.Plain.{plain}
-use Rattle.ahead_rules.proofs.Turns.{part_made}
+use Rattle.ahead_rules.proofs.Moves.{part_made}
 use Rattle.ahead_rules.proofs.asking.derefs_one_answered.Goals as goal
 
 pub returns : goal.returns

@@ -3,7 +3,7 @@ use Rattle.seq_values.specs.Plain.{plain, plains}
 use Rattle.seq_turns.proofs.Taking.{in_ok}
 use Rattle.ahead_rules.specs.Left.{running}
 use Rattle.ahead_rules.proofs.Sequences.{chunk_rest}
-use Rattle.ahead_rules.proofs.Turns.{derefs_takes, derefs_one_takes}
+use Rattle.ahead_rules.proofs.Moves.{derefs_takes, derefs_one_takes}
 use Rattle.ahead_rules.proofs.asking.derefs_place.Goals as goal
 
 pub returns-in-Single : goal.returns-in-Single

@@ -1,6 +1,6 @@
 use Rattle.std.proofs.Common.{sym, ◌∙◌}
 use Rattle.seq_values.specs.Plain.{plain}
-use Rattle.ahead_rules.proofs.Turns.{ahead_number, ahead_no_number}
+use Rattle.ahead_rules.proofs.Moves.{ahead_number, ahead_no_number}
 use Rattle.ahead_rules.proofs.beginning.ahead_counted.Goals as goal
 
 pub returns-in-None : goal.returns-in-None

@@ -5,7 +5,7 @@ use Rattle.seq_values.specs.Model as M
 use Rattle.seq_values.specs.Plain.{plains}
 use Rattle.seq_plan.specs.WellFormed.{sights}
 use Rattle.seq_values.specs.WellFormedTerms.{takes}
-use Rattle.ahead_rules.proofs.Turns.{term_of_args}
+use Rattle.ahead_rules.proofs.Moves.{term_of_args}
 use Rattle.ahead_rules.proofs.beginning.near.Goals as goal
 
 pub returns : goal.returns

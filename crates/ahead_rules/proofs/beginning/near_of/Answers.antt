@@ -1,6 +1,6 @@
 use Rattle.std.proofs.Common.{sym, ◌∙◌}
 use Rattle.seq_values.specs.Plain.{plain}
-use Rattle.ahead_rules.proofs.Turns.{near_part_takes}
+use Rattle.ahead_rules.proofs.Moves.{near_part_takes}
 use Rattle.ahead_rules.proofs.beginning.near_of.Goals as goal
 
 pub returns-in-Some : goal.returns-in-Some

@@ -1,6 +1,6 @@
 use Rattle.std.proofs.Common.{◌∷◌, []}
 use Rattle.seq_values.specs.declared.words.Op.TheVariants as O
-use Rattle.ahead_rules.proofs.Turns.{term_of_args}
+use Rattle.ahead_rules.proofs.Moves.{term_of_args}
 use Rattle.ahead_rules.proofs.beginning.rets.Goals as goal
 
 pub returns : goal.returns

@@ -1,6 +1,6 @@
 use Rattle.std.proofs.Common.{◌∷◌, []}
 use Rattle.seq_values.specs.declared.words.Builtin.TheVariants as B
-use Rattle.ahead_rules.proofs.Turns.{call_of_args, seque_misfit}
+use Rattle.ahead_rules.proofs.Moves.{call_of_args, seque_misfit}
 use Rattle.ahead_rules.proofs.beginning.seque.Goals as goal
 
 pub returns-then-args-ne2 : goal.returns-then-args-ne2

@@ -2,7 +2,7 @@ use Rattle.std.proofs.Common.{sym, ◌∙◌}
 use Rattle.seq_values.specs.Plain.{plain}
 use Rattle.seq_turns.proofs.Taking.{in_ok}
 use Rattle.ahead_rules.specs.Left.{running}
-use Rattle.ahead_rules.proofs.Turns.{seque_number, seque_no_number}
+use Rattle.ahead_rules.proofs.Moves.{seque_number, seque_no_number}
 use Rattle.ahead_rules.proofs.beginning.seque_of.Goals as goal
 
 pub returns-in-None : goal.returns-in-None

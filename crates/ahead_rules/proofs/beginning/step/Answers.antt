@@ -1,7 +1,7 @@
 use Rattle.std.proofs.Common.{◌∷◌, []}
 use Rattle.seq_values.specs.declared.words.Op.TheVariants as O
 use Rattle.ahead_rules.proofs.Fits.{step_four, four_read}
-use Rattle.ahead_rules.proofs.Turns.{term_of_args}
+use Rattle.ahead_rules.proofs.Moves.{term_of_args}
 use Rattle.ahead_rules.proofs.beginning.step.Goals as goal
 
 pub returns : goal.returns

@@ -1,6 +1,6 @@
 use Rattle.seq_values.specs.Plain.{plains}
 use Rattle.seq_values.specs.declared.words.Op.TheVariants as O
-use Rattle.ahead_rules.proofs.Turns.{each_size}
+use Rattle.ahead_rules.proofs.Moves.{each_size}
 use Rattle.ahead_rules.proofs.beginning.term_begins.Goals as goal
 
 pub returns-in-Step : goal.returns-in-Step

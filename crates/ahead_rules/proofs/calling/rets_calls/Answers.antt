@@ -1,4 +1,4 @@
-use Rattle.ahead_rules.proofs.Turns.{rets_call}
+use Rattle.ahead_rules.proofs.Moves.{rets_call}
 use Rattle.ahead_rules.proofs.calling.rets_calls.Goals as goal
 
 pub returns : goal.returns

@@ -3,7 +3,7 @@ use Rattle.seq_values.specs.Plain.{plain, plains}
 use Rattle.seq_plan.specs.Lists.{items_and}
 use Rattle.seq_values.specs.declared.words.Op.TheVariants as O
 use Rattle.ahead_rows.specs.Table.{start_each}
-use Rattle.ahead_rules.proofs.Turns.{each_begun}
+use Rattle.ahead_rules.proofs.Moves.{each_begun}
 use Rattle.ahead_rules.proofs.calling.rets_chunk.Goals as goal
 
 pub returns : goal.returns

@@ -1,6 +1,6 @@
 use Rattle.std.proofs.Common.{drop}
 use Rattle.seq_values.specs.Plain.{plains}
-use Rattle.ahead_rules.proofs.Turns.{rets_ends}
+use Rattle.ahead_rules.proofs.Moves.{rets_ends}
 use Rattle.ahead_rules.proofs.calling.rets_done.Goals as goal
 
 pub returns : goal.returns

@@ -1,7 +1,7 @@
 use Rattle.std.proofs.Common.{ap, ◌∙◌}
 use Rattle.seq_values.specs.Plain.{plain}
 use Rattle.seq_plan.specs.Cursors.{stands}
-use Rattle.ahead_rules.proofs.Turns.{rets_single}
+use Rattle.ahead_rules.proofs.Moves.{rets_single}
 use Rattle.ahead_rules.proofs.calling.rets_one.Goals as goal
 
 pub returns : goal.returns

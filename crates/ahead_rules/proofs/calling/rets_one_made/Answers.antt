@@ -1,4 +1,4 @@
-use Rattle.ahead_rules.proofs.Turns.{rets_one_answer}
+use Rattle.ahead_rules.proofs.Moves.{rets_one_answer}
 use Rattle.ahead_rules.proofs.calling.rets_one_made.Goals as goal
 
 pub returns : goal.returns

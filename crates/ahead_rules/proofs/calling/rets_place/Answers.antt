@@ -2,7 +2,7 @@ use Rattle.std.proofs.Common.{Some}
 use Rattle.seq_values.specs.Plain.{plain, plains}
 use Rattle.seq_turns.proofs.Taking.{in_ok}
 use Rattle.ahead_rules.specs.Left.{running}
-use Rattle.ahead_rules.proofs.Turns.{rets_takes, rets_one_takes}
+use Rattle.ahead_rules.proofs.Moves.{rets_takes, rets_one_takes}
 use Rattle.ahead_rules.proofs.calling.rets_place.Goals as goal
 
 pub returns-in-Single : goal.returns-in-Single

@@ -1,7 +1,7 @@
 use Rattle.seq_turns.proofs.Taking.{in_ok}
 use Rattle.ahead_rules.specs.Left.{running}
 use Rattle.seq_turns.specs.Seen.{seen, rested}
-use Rattle.ahead_rules.proofs.Turns.{first_now, first_ask}
+use Rattle.ahead_rules.proofs.Moves.{first_now, first_ask}
 use Rattle.ahead_rules.proofs.stepping.first_place.Goals as goal
 
 pub returns-in-Now : goal.returns-in-Now

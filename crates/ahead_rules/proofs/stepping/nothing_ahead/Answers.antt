@@ -1,4 +1,4 @@
-use Rattle.ahead_rules.proofs.Turns.{nothing_first}
+use Rattle.ahead_rules.proofs.Moves.{nothing_first}
 use Rattle.ahead_rules.proofs.stepping.nothing_ahead.Goals as goal
 
 pub returns : goal.returns

@@ -1,5 +1,5 @@
 use Rattle.seq_turns.specs.Seen.{seen}
-use Rattle.ahead_rules.proofs.Turns.{others_made}
+use Rattle.ahead_rules.proofs.Moves.{others_made}
 use Rattle.ahead_rules.proofs.stepping.others_at.Goals as goal
 
 pub returns : goal.returns

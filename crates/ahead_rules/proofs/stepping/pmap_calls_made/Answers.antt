@@ -1,5 +1,5 @@
 use Rattle.std.proofs.Common.{refl, ◌∙◌, ◌∷◌, []}
-use Rattle.ahead_rules.proofs.Turns.{part_made}
+use Rattle.ahead_rules.proofs.Moves.{part_made}
 use Rattle.ahead_rules.proofs.stepping.pmap_calls_made.Goals as goal
 
 pub returns : goal.returns

@@ -1,7 +1,7 @@
 use Rattle.std.proofs.Common.{refl}
 use Rattle.seq_values.specs.Model as M
 use Rattle.seq_plan.specs.Plan.{give}
-use Rattle.ahead_rules.proofs.Turns.{steps_on}
+use Rattle.ahead_rules.proofs.Moves.{steps_on}
 use Rattle.ahead_rules.proofs.stepping.pmap_drop_made.Goals as goal
 
 pub returns : goal.returns

@@ -1,5 +1,5 @@
 use Rattle.seq_plan.specs.Cursors.{stands}
-use Rattle.ahead_rules.proofs.Turns.{step_asked}
+use Rattle.ahead_rules.proofs.Moves.{step_asked}
 use Rattle.ahead_rules.proofs.stepping.step_asks.Goals as goal
 
 pub returns : goal.returns

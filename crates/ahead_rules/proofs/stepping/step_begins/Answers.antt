@@ -4,7 +4,7 @@ use Rattle.std.proofs.Common.{refl}
 use Rattle.ahead_rules.specs.Left.{left_seq}
 use Rattle.ahead_rules.specs.declared.state.AtSeq.TheVariants as Q
 use Rattle.seq_turns.specs.Seen.{seen}
-use Rattle.ahead_rules.proofs.Turns.{seq_now, seq_ask}
+use Rattle.ahead_rules.proofs.Moves.{seq_now, seq_ask}
 use Rattle.ahead_rules.proofs.stepping.step_begins.Goals as goal
 
 pub returns-in-Now : goal.returns-in-Now

@@ -1,6 +1,6 @@
 use Rattle.std.proofs.Common.{refl, ap, ◌∙◌, ◌∷◌, []}
 use Rattle.seq_values.specs.Plain.{plain}
-use Rattle.ahead_rules.proofs.Turns.{part_made}
+use Rattle.ahead_rules.proofs.Moves.{part_made}
 use Rattle.ahead_rules.proofs.stepping.step_ends.Goals as goal
 
 pub returns : goal.returns

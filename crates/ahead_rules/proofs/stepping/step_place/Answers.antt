@@ -1,7 +1,7 @@
 use Rattle.std.proofs.Common.{sym, ◌∙◌}
 use Rattle.seq_turns.proofs.Taking.{in_ok}
 use Rattle.ahead_rules.specs.Left.{running}
-use Rattle.ahead_rules.proofs.Turns.{step_takes, step_throws}
+use Rattle.ahead_rules.proofs.Moves.{step_takes, step_throws}
 use Rattle.ahead_rules.proofs.stepping.step_place.Goals as goal
 
 pub returns-in-None : goal.returns-in-None

@@ -3,7 +3,7 @@ use Rattle.ahead_rules.specs.Left.{running}
 use Rattle.ahead_rules.specs.Left.{left_seq}
 use Rattle.ahead_rules.specs.declared.state.AtSeq.TheVariants as Q
 use Rattle.seq_turns.specs.Seen.{seen}
-use Rattle.ahead_rules.proofs.Turns.{seq_now, seq_ask}
+use Rattle.ahead_rules.proofs.Moves.{seq_now, seq_ask}
 use Rattle.ahead_rules.proofs.stepping.steps.Goals as goal
 
 pub returns-in-Now : goal.returns-in-Now

@@ -2,7 +2,7 @@ use Rattle.seq_turns.proofs.Taking.{in_ok}
 use Rattle.ahead_rules.specs.Left.{running}
 use Rattle.seq_values.specs.Plain.{plain}
 use Rattle.std.proofs.Common.{rules, arith}
-use Rattle.ahead_rules.proofs.Turns.{ahead_none, ahead_some}
+use Rattle.ahead_rules.proofs.Moves.{ahead_none, ahead_some}
 use Rattle.ahead_rules.proofs.taking.ahead_begins.Goals as goal
 
 pub returns-then-count-le0 : goal.returns-then-count-le0

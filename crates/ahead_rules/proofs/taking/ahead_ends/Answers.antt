@@ -1,4 +1,4 @@
-use Rattle.ahead_rules.proofs.Turns.{ahead_over}
+use Rattle.ahead_rules.proofs.Moves.{ahead_over}
 use Rattle.ahead_rules.proofs.taking.ahead_ends.Goals as goal
 
 pub returns : goal.returns

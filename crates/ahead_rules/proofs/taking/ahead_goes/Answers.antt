@@ -1,4 +1,4 @@
-use Rattle.ahead_rules.proofs.Turns.{ahead_visit}
+use Rattle.ahead_rules.proofs.Moves.{ahead_visit}
 use Rattle.ahead_rules.proofs.taking.ahead_goes.Goals as goal
 
 pub returns : goal.returns

@@ -1,7 +1,7 @@
 use Rattle.std.proofs.Common.{sym, ◌∙◌, pos}
 use Rattle.seq_values.specs.Plain.{plain}
 use Rattle.ahead_rows.specs.Table.{ahead_rule}
-use Rattle.ahead_rules.proofs.Turns.{asks_part, asks_none}
+use Rattle.ahead_rules.proofs.Moves.{asks_part, asks_none}
 use Rattle.ahead_rules.proofs.taking.ahead_of_begins.Goals as goal
 
 pub returns-in-None : goal.returns-in-None

@@ -3,7 +3,7 @@ use Rattle.seq_values.specs.Plain.{plain}
 use Rattle.seq_values.specs.Model as M
 use Rattle.seq_plan.specs.Plan.{go, give, ahead_from}
 use Rattle.seq_turns.specs.Seen.{seen}
-use Rattle.ahead_rules.proofs.Turns.{seq_now, seq_ask}
+use Rattle.ahead_rules.proofs.Moves.{seq_now, seq_ask}
 use Rattle.ahead_rules.proofs.taking.ahead_on.Goals as goal
 
 pub returns-in-Now : goal.returns-in-Now

@@ -2,7 +2,7 @@ use Rattle.seq_turns.proofs.Taking.{in_ok}
 use Rattle.ahead_rules.specs.Left.{running}
 use Rattle.std.proofs.Common.{rules, arith}
 use Rattle.seq_turns.specs.Seen.{rested}
-use Rattle.ahead_rules.proofs.Turns.{last_taken, more_taken}
+use Rattle.ahead_rules.proofs.Moves.{last_taken, more_taken}
 use Rattle.ahead_rules.proofs.taking.ahead_step.Goals as goal
 
 pub returns-then-count-le1 : goal.returns-then-count-le1

@@ -1,4 +1,4 @@
-use Rattle.ahead_rules.proofs.Turns.{within_visit}
+use Rattle.ahead_rules.proofs.Moves.{within_visit}
 use Rattle.ahead_rules.proofs.taking.ahead_within.Goals as goal
 
 pub returns : goal.returns

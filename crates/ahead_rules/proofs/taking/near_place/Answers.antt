@@ -1,6 +1,6 @@
 use Rattle.std.proofs.Common.{ap, ◌∙◌}
 use Rattle.seq_values.specs.Plain.{plain}
-use Rattle.ahead_rules.proofs.Turns.{near_takes}
+use Rattle.ahead_rules.proofs.Moves.{near_takes}
 use Rattle.ahead_rules.proofs.taking.near_place.Goals as goal
 
 pub returns : goal.returns

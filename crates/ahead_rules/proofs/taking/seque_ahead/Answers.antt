@@ -1,6 +1,6 @@
 use Rattle.std.proofs.Common.{refl, ap, ◌∙◌, ◌∷◌, []}
 use Rattle.seq_values.specs.Plain.{plain}
-use Rattle.ahead_rules.proofs.Turns.{part_made, ahead_fits}
+use Rattle.ahead_rules.proofs.Moves.{part_made, ahead_fits}
 use Rattle.ahead_rules.proofs.taking.seque_ahead.Goals as goal
 
 pub returns : goal.returns

@@ -3,7 +3,7 @@ use Rattle.ahead_rules.specs.Left.{running}
 use Rattle.seq_values.specs.Plain.{plain}
 use Rattle.std.proofs.Common.{rules, arith}
 use Rattle.ahead_rows.specs.Table.{seque_rule}
-use Rattle.ahead_rules.proofs.Turns.{counted, uncounted}
+use Rattle.ahead_rules.proofs.Moves.{counted, uncounted}
 use Rattle.ahead_rules.proofs.taking.seque_begins.Goals as goal
 
 pub returns-then-count-lt1 : goal.returns-then-count-lt1
