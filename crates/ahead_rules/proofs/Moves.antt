@@ -211,6 +211,14 @@ steps_on g vs fs k r e1 e2 e3 h = takes_same running (λ i. step (e1 i) (e2 i) (
 
 -- ## seque
 
+-- a count that is handed on
+pub handed : (p : ℤ → Plan ℕ) (n m : ℤ) (r : Next State) → m ≡ n → Takes running (p m) r → Takes running (p n) r
+handed p n m r e h = takes_same running (ap p e) h
+
+pub handed_ok : {E : Type 0} (p : ℤ → Plan ℕ) (n m : ℤ) (x : Result (Next State) E) → m ≡ n → IfOk x (λ r. Takes running (p m) r) → IfOk x (λ r. Takes running (p n) r)
+handed_ok p n m (Ok r) e h = handed p n m r e h
+handed_ok p n m (Err w) e h = tt
+
 pub counted : (n : ℤ) (p : Plan ℕ) (r : Next State) → pos 1 ≤ℤ n → Takes running p r → Takes running (at_least_one n p) r
 counted n p r b h = let e : int_lt n (pos 1) ≡ false = search (rules, arith) in rw e h
 

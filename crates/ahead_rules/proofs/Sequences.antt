@@ -1,5 +1,5 @@
 -- What a cursor stands for is well formed, so what comes after an element may be the collection of a part.
-use Rattle.std.proofs.Common.{◌≡◌, ℕ, ℤ, ◌<ℤ◌, zero, suc, ◌+◌, ◌<◌, ◌&&◌, max, int_lt, true, Bool, List, [], ◌∷◌, ◌++◌, length, take, drop, Option, Some, None, refl, ap, sym, subst, ◌∙◌, rules, arith}
+use Rattle.std.proofs.Common.{◌≡◌, ℕ, ℤ, ◌<ℤ◌, zero, suc, ◌+◌, ◌<◌, ◌&&◌, max, int_lt, true, Bool, List, [], ◌∷◌, ◌++◌, length, take, drop, Option, Some, None, length-append, refl, ap, sym, subst, ◌∙◌, rules, arith}
 use Rattle.std.specs.Prelude.{IsTrue}
 use Rattle.seq_values.specs.Model as M
 use Rattle.seq_values.specs.Depth as D
@@ -74,6 +74,9 @@ seen_is_seq s v e = subst (λ x. is_seq (sight x) ≡ true) (sym e) (seen_seq s)
 
 pub four_items : (l0 l1 l2 l3 l4 : List (M.Value ℕ)) (a b c d : M.Value ℕ) → l0 ≡ [] → l1 ≡ l0 ++ a ∷ [] → l2 ≡ l1 ++ b ∷ [] → l3 ≡ l2 ++ c ∷ [] → l4 ≡ l3 ++ d ∷ [] → l4 ≡ a ∷ b ∷ c ∷ d ∷ []
 four_items l0 l1 l2 l3 l4 a b c d e0 e1 e2 e3 e4 = rw (e4, e3, e2, e1, e0) refl
+
+pub longer : (xs ys : List Value) (x : Value) → ys ≡ xs ++ x ∷ [] → length ys ≡ length xs + 1
+longer xs ys x e = ap length e ∙ length-append xs (x ∷ [])
 
 pub some_left : (xs : List Value) (k : ℕ) (x : Value) (ys : List Value) → drop k xs ≡ x ∷ ys → k < length xs
 some_left [] zero x ys e = absurd cc

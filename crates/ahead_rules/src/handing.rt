@@ -54,13 +54,12 @@ pub(crate) struct Parted {
     pub(crate) rest: Sequence,
 }
 
-#[tactic(auto, using(crate::proofs::Sequences::rest_sequence))]
 /// What comes after the first element, as a value.
 pub(crate) fn after_first(alloc: Global, place: Cursor) -> Result<Sequence, NoMemory>
     ensures { IfOk result (λ rest. plain rest.value ≡ rest_of (stands place)) }
 {
-    let rest = step_cursor(place)?;
-    let rest = rest_value(alloc, rest)?;
+    let after = step_cursor(place)?;
+    let rest = rest_value(alloc, after)?;
     Ok(Sequence { value: rest.value })
 }
 
@@ -146,7 +145,6 @@ pub(crate) fn as_number(value: Proper) -> Option<i64>
     number_of(&value.value)
 }
 
-#[tactic(auto, using(crate::proofs::Sequences::four_items))]
 /// Four values.
 pub(crate) fn four(
     alloc: Global,
@@ -166,7 +164,6 @@ pub(crate) fn four(
     Ok(list)
 }
 
-#[tactic(auto, using(crate::proofs::Sequences::term_is_well))]
 /// The operation on arguments that fit it.
 fn term(op: Op, args: ProperList) -> Term
     requires { takes op (sights (M.values (plains args.items))) ≡ true }

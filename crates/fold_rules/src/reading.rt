@@ -22,3 +22,58 @@ use seq_turns::{Next, Proper, ProperList, throws};
 use seq_values::{Op, Term, Value};
 use seq_vector::NoMemory;
 use std::alloc::Global;
+
+/// The work of a part.
+pub(crate) fn term_begins(alloc: Global, work: Work) -> Result<Next<State>, NoMemory>
+    ensures { IfOk result (λ r. Takes running (left_begin (N.Work work)) r) }
+{
+    let Term { op, args } = work.term;
+    let args = ProperList { items: args };
+    match op {
+        Op::Fold => fold_read(alloc, args),
+        _ => Ok(no_fold(args)),
+    }
+}
+
+/// A term that is none of this crate.
+fn no_fold(args: ProperList) -> Next<State>
+    ensures { Takes running (throw BadType) result }
+{
+    throws(State::Over, Thrown::BadType)
+}
+
+/// The values that a fold begins with.
+#[derive(Drop)]
+struct Head {
+    items: Items,
+    size: i64,
+    combine: Proper,
+    function: Proper,
+}
+
+fn fold_read(alloc: Global, args: ProperList) -> Result<Next<State>, NoMemory>
+    requires { takes O.Fold (sights (M.values (plains args.items))) ≡ true }
+    ensures { IfOk result (λ r. Takes running (fold_term (plains args.items)) r) }
+{
+    let head = head_of(&args)?;
+    let stages = stages_from(alloc, &args)?;
+    let_go(args);
+    let Head {
+        items,
+        size,
+        combine,
+        function,
+    } = head;
+    let folding = Folding {
+        size,
+        combine,
+        function,
+        stages,
+        parts: Vec::new(alloc),
+    };
+    let next = folds(alloc, folding, items)?;
+    Ok(next)
+}
+
+/// Values that are not needed any more.
+fn let_go(values: ProperList) {}

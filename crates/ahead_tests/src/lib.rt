@@ -1,0 +1,7 @@
+//! Rules that work ahead and rules of folds, driven by hand: what each turn asks for, by tables. What is expected is what the rows of the language say.
+#![tactic(auto)]
+
+#[cfg(test)]
+mod ahead;
+#[cfg(test)]
+mod scripts;
