@@ -1,10 +1,7 @@
 -- Lists of well-formed values.
-use Rattle.std.proofs.Common.{◌≡◌, ℕ, zero, suc, ◌+◌, ◌<◌, ◌≤◌, nat_le, Bool, true, false, List, [], ◌∷◌, ◌++◌, map, length, drop, reverse, slice_get, Some, None, ◌&&◌, refl, ap, sym, subst, ◌∙◌, rules, arith, length-append}
-use Rattle.std.specs.Prelude.{IsTrue, Bor}
-use Rattle.std.specs.declared.option.Option.{Option}
-use Rattle.std.specs.Option.{option_copied}
+use Rattle.std.proofs.Common.{◌≡◌, ℕ, zero, suc, ◌+◌, ◌<◌, ◌≤◌, nat_le, true, false, List, [], ◌∷◌, ◌++◌, map, length, drop, reverse, slice_get, Some, None, refl, ap, sym, subst, ◌∙◌, rules, arith, length-append}
+use Rattle.std.specs.Prelude.{IsTrue}
 use Rattle.std.proofs.lemmas.List.{length-map, map-append, length-reverse, reverse-append}
-use Rattle.seq_base.specs.declared.thrown.Thrown.TheVariants.{Overflow}
 use Rattle.seq_values.specs.Model as M
 use Rattle.seq_values.specs.Plain.{plain, plains}
 use Rattle.seq_values.specs.WellFormed.{is_well_formed, are_well_formed, sight_of}
@@ -13,10 +10,8 @@ use Rattle.seq_values.specs.declared.words.Op.{Op}
 use Rattle.seq_values.specs.declared.value.Value.{Value}
 use Rattle.seq_values.proofs.DepthLemmas.{and_parts, both}
 use Rattle.seq_values.proofs.WellFormedLemmas.{one_well, well_joined, member_well}
-use Rattle.seq_plan.specs.Plan.{Plan, throw}
 use Rattle.seq_plan.specs.Nodes.{with_members, longest}
 use Rattle.seq_turns.specs.Making.{Grows}
-use Rattle.seq_turns.specs.declared.made.Grown.{Grown}
 use Rattle.seq_turns.specs.declared.made.Grown.TheVariants as G
 use Rattle.seq_turns.specs.declared.proper.Gathered.{Gathered}
 
@@ -64,12 +59,12 @@ long_more xs x = length-append (plains xs) (plain x ∷ []) ∙ ap (λ n. n + 1)
 pub grows_all : (xs : List Value) (x : Value) (all : Gathered) → length xs < 4294967295 → plains all.items.items ≡ plains xs ++ plain x ∷ [] → Grows (with_members (plains xs ++ plain x ∷ [])) (G.All all)
 grows_all xs x all b e =
     let l : nat_le (length (plains xs ++ plain x ∷ [])) longest ≡ true = is_le _ _ (omega (arith, long_more xs x, b)) in
-    λ k. rw l (ap k (sym e))
+    record { goes = λ k. rw l (ap k (sym e)) }
 
 pub grows_no_more : (xs : List Value) (x : Value) → 4294967295 ≤ length xs → Grows (with_members (plains xs ++ plain x ∷ [])) G.TooMany
 grows_no_more xs x b =
     let l : nat_le (length (plains xs ++ plain x ∷ [])) longest ≡ false = not_le _ _ (omega (arith, long_more xs x, b)) in
-    λ k. rw l refl
+    record { goes = λ k. rw l refl }
 
 -- ## Turned round
 

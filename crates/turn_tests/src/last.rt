@@ -15,7 +15,7 @@ use seq_turns::{
     Next, Proper, Rest, Rule, Seen, Sought, gives, seek_rest, seeks, seen_of, split_cursor,
     visits,
 };
-use seq_values::{Answer, Turn};
+use seq_values::{Answer, Turn, Value};
 use seq_vector::NoMemory;
 
 impl Rule for State {
@@ -118,4 +118,29 @@ pub fn turn(call: Last, answer: Answer) -> Result<(Last, Turn), NoMemory>
 {
     let Next { state, turn } = next(call.state, answer)?;
     Ok((Last { state }, turn))
+}
+
+/// What a call gave, after so many own steps.
+#[derive(Drop)]
+pub struct Ended {
+    pub steps: usize,
+    pub value: Value,
+}
+
+/// Drives a call of `last` over a collection of which nothing has to be asked. `None` where it takes more turns than the limit, or asks.
+pub fn driven(collection: Proper, limit: usize) -> Result<Option<Ended>, NoMemory> {
+    let mut call = begin(collection);
+    let mut answer = Answer::Begin;
+    for steps in 0..limit {
+        let (next, what) = turn(call, answer)?;
+        match what {
+            Turn::Visit => {
+                call = next;
+                answer = Answer::Done;
+            }
+            Turn::Give(value) => return Ok(Some(Ended { steps, value })),
+            _ => return Ok(None),
+        }
+    }
+    Ok(None)
 }

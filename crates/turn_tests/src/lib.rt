@@ -10,5 +10,5 @@ mod nodes;
 mod rules;
 mod state;
 
-pub use last::{begin, turn};
+pub use last::{Ended, begin, driven, turn};
 pub use state::Last;

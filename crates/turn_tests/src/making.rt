@@ -1,4 +1,4 @@
-use crate::nodes::{elements, made, number_of, numbers};
+use crate::nodes::{elements, made, numbers, same};
 use seq_base::Thrown;
 use seq_turns::{
     Gathered, Grown, Made, Proper, ProperList, first_before, function_made, items_before,
@@ -36,7 +36,7 @@ fn is_thrown(what: &Made, why: Thrown) -> bool {
 #[test]
 fn nothing_is_deeper_than_256(rt: HostRuntime) -> Result<(), Fail> {
     let alloc = rt.alloc();
-    let Some(id) = CellId::of_index(3) else {
+    let Some(id) = CellId::of(3) else {
         return Err(Fail::from("no number"));
     };
     assert!(rt; matches!(nested(alloc, 256)?, Made::Value(_)));
@@ -64,19 +64,19 @@ fn elements_go_before_sequences(rt: HostRuntime) -> Result<(), Fail> {
     let alloc = rt.alloc();
     let list = made(list_made(alloc, numbers(alloc, 3)?).map_err(full)?)?;
     let whole = made(put_first(alloc, Proper::of_int(9), list).map_err(full)?)?;
-    assert!(rt; elements(alloc, whole, 9)?.as_slice() == [9, 0, 1, 2]);
+    assert!(rt; same(&elements(alloc, whole, 9)?, &[9, 0, 1, 2]));
     for rest in [Proper::nil(), Proper::empty()] {
         let whole = made(put_first(alloc, Proper::of_int(9), rest).map_err(full)?)?;
-        assert!(rt; elements(alloc, whole, 9)?.as_slice() == [9]);
+        assert!(rt; same(&elements(alloc, whole, 9)?, &[9]));
     }
     let vector = made(vector_made(ProperList::none()))?;
     let whole = made(put_first(alloc, Proper::of_int(9), vector).map_err(full)?)?;
-    assert!(rt; elements(alloc, whole, 9)?.as_slice() == [9]);
+    assert!(rt; same(&elements(alloc, whole, 9)?, &[9]));
     let range = Proper {
         value: Value::Node(Node::range(0, 2)),
     };
     let whole = made(put_first(alloc, Proper::of_int(9), range).map_err(full)?)?;
-    assert!(rt; elements(alloc, whole, 9)?.as_slice() == [9, 0, 1]);
+    assert!(rt; same(&elements(alloc, whole, 9)?, &[9, 0, 1]));
     let wrong = put_first(alloc, Proper::of_int(9), Proper::of_truth(true)).map_err(full)?;
     assert!(rt; is_thrown(&wrong, Thrown::BadType));
     Ok(())
@@ -85,7 +85,7 @@ fn elements_go_before_sequences(rt: HostRuntime) -> Result<(), Fail> {
 #[test]
 fn items_go_before_a_part(rt: HostRuntime) -> Result<(), Fail> {
     let alloc = rt.alloc();
-    let Some(id) = CellId::of_index(3) else {
+    let Some(id) = CellId::of(3) else {
         return Err(Fail::from("no number"));
     };
     let none = made(items_before(alloc, ProperList::none(), id).map_err(full)?)?;
@@ -94,9 +94,9 @@ fn items_go_before_a_part(rt: HostRuntime) -> Result<(), Fail> {
     let some = made(items_before(alloc, two, id).map_err(full)?)?;
     assert!(rt; matches!(some.value, Value::Node(Node::Chunk { .. })));
     let more = made(one_more(alloc, 1, PVec::new(), Proper::of_int(5)).map_err(full)?)?;
-    assert!(rt; elements(alloc, more, 9)?.as_slice() == [5]);
+    assert!(rt; same(&elements(alloc, more, 9)?, &[5]));
     let turned = numbers(alloc, 3)?.turned().listed(alloc).map_err(full)?;
     let whole = made(vector_made(turned))?;
-    assert!(rt; elements(alloc, whole, 9)?.as_slice() == [2, 1, 0]);
+    assert!(rt; same(&elements(alloc, whole, 9)?, &[2, 1, 0]));
     Ok(())
 }
