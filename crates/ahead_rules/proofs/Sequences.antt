@@ -1,44 +1,25 @@
--- What a cursor stands for is well formed, so what comes after an element may be the collection of a part.
+-- What comes after an element, or after a chunk, may be the collection of a part; and terms of arguments that fit are well formed.
 use Rattle.std.proofs.Common.{◌≡◌, ℕ, ℤ, ◌<ℤ◌, zero, suc, ◌+◌, ◌<◌, ◌&&◌, max, int_lt, true, Bool, List, [], ◌∷◌, ◌++◌, length, take, drop, Option, Some, None, length-append, refl, ap, sym, subst, ◌∙◌, rules, arith}
 use Rattle.std.specs.Prelude.{IsTrue}
 use Rattle.seq_values.specs.Model as M
-use Rattle.seq_values.specs.Depth as D
-use Rattle.seq_values.specs.Plain.{plain, plains, plain_term}
-use Rattle.seq_values.specs.WellFormed.{is_well_formed, is_well_formed_node, are_well_formed}
+use Rattle.seq_values.specs.Plain.{plain, plains}
+use Rattle.seq_values.specs.WellFormed.{is_well_formed, are_well_formed}
 use Rattle.seq_values.specs.WellFormedTerms.{is_seq, is_sequence, takes, is_well_formed_term}
 use Rattle.seq_values.specs.declared.term.Term.{Term}
 use Rattle.seq_values.specs.declared.value.Value.{Value}
-use Rattle.seq_values.specs.declared.value.Value.TheVariants as V
-use Rattle.seq_values.specs.declared.value.Node.TheVariants as N
-use Rattle.seq_values.proofs.WellFormedLemmas.{node_well, range_well, list_keeps}
-use Rattle.seq_values.proofs.PartLemmas.{cons_part_well, chunk_part_well}
+use Rattle.seq_values.proofs.WellFormedLemmas.{list_keeps}
 use Rattle.seq_plan.specs.Nodes.{rest_of, chunk_of}
 use Rattle.seq_plan.specs.Cursors.{stands}
-use Rattle.seq_plan.specs.WellFormed.{sight, sights, Well, WellList, well_end, well_item, well_range, WellTerm, well_term}
+use Rattle.seq_plan.specs.WellFormed.{sight, sights, WellList, well_end, well_item, well_term}
 use Rattle.seq_plan.specs.declared.cursor.Cursor.{Cursor}
 use Rattle.seq_plan.specs.declared.cursor.Cursor.TheVariants as C
-use Rattle.seq_plan.proofs.CursorLemmas.{plain_cons, plain_chunk, plain_vec_seq}
-use Rattle.seq_plan.proofs.FitLemmas.{both, first_of_both, second_of_both}
+use Rattle.seq_plan.proofs.FitLemmas.{first_of_both, second_of_both}
 use Rattle.seq_plan.proofs.WellNodes.{WellChunk, well_unchunked, well_chunked, well-chunk_of, rest_is_sequence}
 use Rattle.seq_plan.proofs.WellValues.{well_formed, formed_term}
 use Rattle.seq_turns.specs.Seen.{seen}
 use Rattle.seq_turns.specs.declared.places.Seen.{Seen}
 use Rattle.seq_turns.specs.declared.places.Seen.TheVariants as S
-
-lt_true : (a b : ℤ) → a <ℤ b → int_lt a b ≡ true
-lt_true a b h = search (rules, arith)
-
-pub stands_well : (c : Cursor) → Well (stands c)
-stands_well (C.Heads h) =
-    let kept = max (D.depth_of_all (take h.left h.heads)) (D.depth h.rest) + 1 in
-    let w = cons_part_well h.heads h.rest h.depth h.left h.well kept h.within.0 h.within.1 refl in
-    subst Well (plain_cons kept (take h.left h.heads) h.rest) (well_formed (V.Node (N.Cons kept (take h.left h.heads) h.rest)) (node_well _ w))
-stands_well (C.Items i) =
-    let kept = max (D.depth_of_all (drop i.done i.items)) (D.depth i.rest) + 1 in
-    let w = chunk_part_well i.items i.rest i.depth i.done i.well kept i.within refl in
-    subst Well (plain_chunk kept (drop i.done i.items) i.rest) (well_formed (V.Node (N.Chunk kept (drop i.done i.items) i.rest)) (node_well _ w))
-stands_well (C.Range r) = well_range (both r.begun (lt_true r.at r.end r.within))
-stands_well (C.Vector v) = subst Well (plain_vec_seq v.depth v.items v.at) (well_formed (V.Node (N.VecSeq v.depth v.items v.at)) (node_well _ v.well))
+use Rattle.seq_turns.proofs.Standing.{stands_well}
 
 -- what comes after an element
 pub rest_sequence : (c : Cursor) (v : M.Value ℕ) → v ≡ rest_of (stands c) → IsTrue (is_sequence (sight v))

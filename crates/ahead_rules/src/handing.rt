@@ -73,7 +73,6 @@ pub(crate) fn taken_apart(alloc: Global, place: Cursor) -> Result<Parted, NoMemo
     Ok(Parted { first, rest })
 }
 
-#[tactic(auto, using(crate::proofs::Sequences::seen_is_seq))]
 /// What `seq` gave, as a value.
 pub(crate) fn given_seq(alloc: Global, what: Seen) -> Result<Proper, NoMemory>
     ensures stands { IfOk result (λ v. plain v.value ≡ seen what) }

@@ -1,5 +1,5 @@
 //! `pmap`, and the steps in which its answers are asked while further calls are started.
-ghost use Rattle.std.specs.Prelude.{◌≡◌, [], ◌∷◌, IfOk};
+ghost use Rattle.std.specs.Prelude.{pos, ◌+◌, ◌≡◌, [], ◌∷◌, IfOk};
 ghost use Rattle.seq_base.specs.declared.thrown.Thrown.TheVariants.{BadType};
 ghost use Rattle.seq_plan.specs.Cursors.{stands};
 ghost use Rattle.seq_plan.specs.Lists.{lazily};
@@ -49,10 +49,17 @@ pub(crate) fn pmap_calls_made(
 ) -> Result<Next<State>, NoMemory>
     ensures { IfOk result (λ r. Takes running (left_part (P.PmapRets processors) id) r) }
 {
-    let count = Proper::of_int(2 + processors as i64);
+    let count = calls_ahead(processors);
     let part = Proper::of_part(id);
     let args = ProperList::two(alloc, count, part)?;
     Ok(makes_part(AtPart::PmapDrop { rets: id }, Kind::Lazy, Op::Drop, args))
+}
+
+/// How many calls run ahead: two more than the processors.
+fn calls_ahead(processors: u32) -> Proper
+    ensures { plain result.value ≡ M.int (pos (2 + processors)) }
+{
+    Proper::of_int(2 + processors as i64)
 }
 
 /// Both sequences were made: the first step is.

@@ -1,5 +1,5 @@
 //! `seque`: futures take elements ahead of those that are asked.
-ghost use Rattle.std.specs.Prelude.{[], ◌∷◌, IfOk, pos, ◌<ℤ◌};
+ghost use Rattle.std.specs.Prelude.{◌≡◌, ◌-ℤ◌, [], ◌∷◌, IfOk, pos, ◌<ℤ◌};
 ghost use Rattle.seq_base.specs.declared.thrown.Thrown.TheVariants.{Index};
 ghost use Rattle.seq_plan.specs.Arguments.{at_least_one};
 ghost use Rattle.seq_plan.specs.Cursors.{stands};
@@ -125,7 +125,16 @@ pub(crate) fn ahead_step(alloc: Global, count: i64, place: Cursor) -> Result<Nex
     if count <= 1 {
         return given_rest(alloc, rest);
     }
-    ahead_further(count - 1, rest)
+    let less = one_less(count);
+    ahead_further(less, rest)
+}
+
+/// One less.
+fn one_less(count: i64) -> i64
+    requires { pos 1 <ℤ count }
+    ensures { result ≡ count -ℤ pos 1 }
+{
+    count - 1
 }
 
 /// What is left is given, unasked.

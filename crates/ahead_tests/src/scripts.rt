@@ -5,7 +5,10 @@ ghost use Rattle.seq_values.specs.Plain.{plain};
 ghost use Rattle.seq_values.specs.WellFormed.{is_well_formed};
 
 use seq_base::word_of;
-use seq_turns::{Proper, ProperList, Sought, list_made, put_first, seek, seen_value, vector_made, Gathered, Made};
+use seq_turns::{
+    Gathered, Made, Proper, ProperList, Sought, chunk_and_end, list_made, put_first, seek,
+    seen_value, vector_made,
+};
 use seq_values::{Answer, Builtin, CellId, Kind, Node, Op, Target, Turn, Value, word_value};
 use seq_vector::{NoMemory, PVec};
 use std::alloc::Global;
@@ -209,8 +212,27 @@ pub(crate) fn value_of(alloc: Global, arg: Arg) -> Result<Proper, Fail> {
             let rest = part_of(number)?;
             made(put_first(alloc, part_of(first)?, rest).map_err(full)?)
         }
-        _ => Err(Fail::from("no value")),
+        Arg::Parts(numbers, _) => {
+            let items = parts(alloc, numbers)?;
+            if items.len() == 0 {
+                return Err(Fail::from("no value"));
+            }
+            made(chunk_and_end(alloc, items).map_err(full)?)
+        }
+        Arg::Chunk(..) => Err(Fail::from("no value")),
     }
+}
+
+/// The parts of a table.
+fn parts(alloc: Global, numbers: &[u32]) -> Result<ProperList, Fail> {
+    let mut all = Gathered::none(alloc);
+    for number in numbers {
+        if all.len() >= 4294967295 {
+            return Err(Fail::from("too many"));
+        }
+        all = all.and(part_of(*number)?).map_err(full)?;
+    }
+    all.listed(alloc).map_err(full)
 }
 
 fn part_of(number: u32) -> Result<Proper, Fail> {

@@ -82,9 +82,9 @@ stage_is_called r later rest kind f x copy args n look e1 e2 h =
     let b : place_of r rest ≡ at + 1 = ap (λ l. l - rest) long ∙ sym look.after in
     let e : plains args ≡ plain x.value ∷ [] = e2 ∙ ap (λ v. plain v ∷ []) e1 in
     takes_same running (
-      (λ i. call (plain f.value) (e i) (λ y. called kind r (b i) (plain x.value) y))
-      ∙ sym (calls_as kind r at (plain f.value) (plain x.value) look.value_is look.state_is)
-      ∙ ap (λ p. entering r p (plain x.value)) (sym a)) h
+    (λ i. call (plain f.value) (e i) (λ y. called kind r (b i) (plain x.value) y))
+    ∙ sym (calls_as kind r at (plain f.value) (plain x.value) look.value_is look.state_is)
+    ∙ ap (λ p. entering r p (plain x.value)) (sym a)) h
 
 -- ## take
 
@@ -154,16 +154,16 @@ outputs r p later called_f x args n none e1 e2 e3 e4 e5 e6 h =
     let no_states_left : drop at (state_values r.stages.items) ≡ [] = drop-map state_value at r.stages.items ∙ ap (map state_value) none in
     let whole : take at (state_values r.stages.items) ++ [] ≡ state_values r.stages.items = ap (λ l. take at (state_values r.stages.items) ++ l) (sym no_states_left) ∙ take-append-drop at (state_values r.stages.items) in
     takes_same running (
-      (λ i. call (plain (e5 i)) (e6 i) (λ y. walks_on (stage_values ((e2 i).items)) (λ all sink is_done. ended (e4 i) (answer_of sink)) ((e3 i).items) (state_values ((e2 i).items)) (reduces (plain ((e1 i).value)) (unwrapped y)) (is_reduced y)))
-      ∙ sym (ap (λ z. entering r z (plain x)) a
-        ∙ (λ i. enter (no_values_left i) (no_states_left i) (sink_of r) (plain x) (λ states. onward r (take at (state_values r.stages.items) ++ states)))
-        ∙ (λ i. call (plain r.function.value) (plain r.answer.value ∷ plain x ∷ []) (λ y. onward r (whole i) (reduces (plain r.function.value) (unwrapped y)) (is_reduced y))))) h
+    (λ i. call (plain (e5 i)) (e6 i) (λ y. walks_on (stage_values ((e2 i).items)) (λ all sink is_done. ended (e4 i) (answer_of sink)) ((e3 i).items) (state_values ((e2 i).items)) (reduces (plain ((e1 i).value)) (unwrapped y)) (is_reduced y)))
+    ∙ sym (ap (λ z. entering r z (plain x)) a
+    ∙ (λ i. enter (no_values_left i) (no_states_left i) (sink_of r) (plain x) (λ states. onward r (take at (state_values r.stages.items) ++ states)))
+    ∙ (λ i. call (plain r.function.value) (plain r.answer.value ∷ plain x ∷ []) (λ y. onward r (whole i) (reduces (plain r.function.value) (unwrapped y)) (is_reduced y))))) h
 
 -- the reducing function gave this
 pub output_ends : (r p : Reducing) (y v : M.Value ℕ) (n : Next State) → v ≡ unwrapped y → is_reduced y ≡ true → plain p.answer.value ≡ v → p.after ≡ r.after → Takes running (ended p.after (plain p.answer.value)) n → Takes running (left_value (V.Output r) y) n
 output_ends r p y v n e1 e2 e3 e4 h = takes_same running (
-      (λ i. ended (e4 i) ((e3 ∙ e1) i))
-      ∙ sym (ap (λ b. onward r (state_values r.stages.items) (reduces (plain r.function.value) (unwrapped y)) b) e2 ∙ walks_done (stage_values r.stages.items) (λ all sink is_done. ended r.after (answer_of sink)) r.walks.items (state_values r.stages.items) (reduces (plain r.function.value) (unwrapped y)))) h
+    (λ i. ended (e4 i) ((e3 ∙ e1) i))
+    ∙ sym (ap (λ b. onward r (state_values r.stages.items) (reduces (plain r.function.value) (unwrapped y)) b) e2 ∙ walks_done (stage_values r.stages.items) (λ all sink is_done. ended r.after (answer_of sink)) r.walks.items (state_values r.stages.items) (reduces (plain r.function.value) (unwrapped y)))) h
 
 pub output_goes_on : (r p : Reducing) (y v : M.Value ℕ) (n : Next State) → v ≡ unwrapped y → is_reduced y ≡ false → plain p.answer.value ≡ v → plain p.function.value ≡ plain r.function.value → p.stages.items ≡ r.stages.items → p.walks.items ≡ r.walks.items → p.after ≡ r.after → Takes running (resumed p) n → Takes running (left_value (V.Output r) y) n
 output_goes_on r p y v n e1 e2 e3 e4 e5 e6 e7 h = takes_same running (λ i. walks_on (stage_values (e5 i)) (λ all sink is_done. ended (e7 i) (answer_of sink)) (e6 i) (state_values (e5 i)) (reduces (e4 i) ((e3 ∙ e1) i)) (sym e2 i)) h

@@ -1,3 +1,4 @@
 pub mod Walking
 pub mod Entering
 pub mod Reads
+pub mod Peeling

@@ -1,15 +1,14 @@
 //! How each word and the term begin.
-ghost use Rattle.std.specs.Prelude.{◌≡◌, ◌<ℤ◌, pos, [], ◌∷◌, IfOk, IsTrue, true};
+ghost use Rattle.std.specs.Prelude.{◌≡◌, ◌<ℤ◌, ◌+◌, ◌≤◌, pos, [], length, IfOk, IsTrue, true, MatchOption, None, Some};
 ghost use Rattle.seq_base.specs.declared.thrown.Thrown.TheVariants.{Arity, BadType};
-ghost use Rattle.seq_plan.specs.Plan.{call, throw};
+ghost use Rattle.seq_plan.specs.Plan.{call, give, throw};
 ghost use Rattle.seq_turns.specs.Turning.{Takes};
 ghost use Rattle.seq_values.specs.Plain.{plain, plains};
 ghost use Rattle.seq_values.specs.declared.words.Builtin.TheVariants as B;
-ghost use Rattle.seq_values.specs.declared.words.FolderKind.TheVariants as F;
-ghost use Rattle.fold_rows.specs.Table.{reducer, take_of, reduce_rule, fold_rule, fold_in, fold_call};
+ghost use Rattle.fold_rows.specs.Table.{reduce_rule, fold_rule, fold_in, fold_call, fold_items as fold_action};
 ghost use Rattle.fold_rules.specs.Left.{running, left_begin, left_value};
-ghost use Rattle.fold_rules.specs.Layers.{is_vector};
-ghost use Rattle.fold_rules.specs.Stages.{are_splittable, is_splittable};
+ghost use Rattle.fold_rules.specs.Reading.{is_plain_kind, word_of, vector_in};
+ghost use Rattle.fold_rules.specs.Stages.{are_splittable, is_splittable, stage_values};
 ghost use Rattle.fold_rules.specs.declared.state.AtBegin.TheVariants as N;
 ghost use Rattle.fold_rules.specs.declared.state.AtValue.TheVariants as V;
 
@@ -98,11 +97,7 @@ fn reducer_take(args: ProperList) -> Result<Next<State>, NoMemory>
     let number = as_number(pair.first);
     match number {
         None => Ok(mistyped(args)),
-        Some(_) => Ok(gives_function(
-            State::Over,
-            Target::Folder(FolderKind::Take),
-            args,
-        )),
+        Some(_) => Ok(gives_function(State::Over, Target::Folder(FolderKind::Take), args)),
     }
 }
 
@@ -200,11 +195,7 @@ fn init_calls(function: Proper, source: Proper) -> Result<Next<State>, NoMemory>
 }
 
 /// A function gives the first answer of a reduction.
-fn first_calls(
-    first: Proper,
-    function: Proper,
-    source: Proper,
-) -> Result<Next<State>, NoMemory>
+fn first_calls(first: Proper, function: Proper, source: Proper) -> Result<Next<State>, NoMemory>
     ensures { IfOk result (λ r. Takes running (call (plain first.value) [] (λ init. reduce_rule (plain function.value) init (plain source.value))) r) }
 {
     let none = ProperList::none();
@@ -257,15 +248,62 @@ fn fold_begins(
     let parts = parts_of(alloc, copy)?;
     let Parts { stages, bottom } = parts;
     let split = all_split(stages.as_slice());
-    match items_of(bottom) {
+    let items = items_of(bottom);
+    match items {
         Some(items) => {
             if !split {
                 return unsplit(combine, function, source, stages, items);
             }
+            let_source_go(source);
             fold_items(alloc, size, combine, function, stages, items)
         }
-        None => first_calls(combine, function, source),
+        None => no_vector(combine, function, source, stages),
     }
+}
+
+/// A collection that is not needed any more.
+fn let_source_go(source: Proper) {}
+
+/// The collection at the bottom is no vector.
+fn no_vector(
+    combine: Proper,
+    function: Proper,
+    source: Proper,
+    stages: Vec<Stage>,
+) -> Result<Next<State>, NoMemory>
+    ensures { IfOk result (λ r. Takes running (call (plain combine.value) [] (λ init. reduce_rule (plain function.value) init (plain source.value))) r) }
+{
+    let_stages_go(stages);
+    let next = first_calls(combine, function, source)?;
+    Ok(next)
+}
+
+/// Stages that are not needed any more.
+fn let_stages_go(stages: Vec<Stage>) {}
+
+/// The items of a vector, and `None` for another value.
+pub(crate) fn items_of(value: Proper) -> Option<Items>
+    ensures { MatchOption result (vector_in (plain value.value) ≡ None) (λ items. vector_in (plain value.value) ≡ Some (plains items.items)) }
+{
+    match value.value {
+        Value::Nil => None,
+        Value::Bool(_) => None,
+        Value::Int(_) => None,
+        Value::Keyword(name) => none_of(Value::Keyword(name)),
+        Value::Text(text) => none_of(Value::Text(text)),
+        Value::Vector { depth, items } => Some(Items { depth, items }),
+        Value::Function(function) => none_of(Value::Function(function)),
+        Value::Node(node) => none_of(Value::Node(node)),
+        Value::Reduced { depth, value } => none_of(Value::Reduced { depth, value }),
+        Value::Cell(_) => None,
+    }
+}
+
+/// A value that is no vector is let go.
+fn none_of(value: Value) -> Option<Items>
+    ensures { result ≡ None }
+{
+    None
 }
 
 /// The reduction isn't split: what was taken apart is let go.

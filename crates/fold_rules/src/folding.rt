@@ -1,17 +1,9 @@
 //! Folds: more items than a group may have are halved, and the second half is a future.
-ghost use Rattle.std.specs.Prelude.{SomeIff, ◌≡◌, ◌+◌, ◌-◌, ◌<◌, ◌≤◌, ◌/◌, ◌++◌, [], ◌∷◌, ℤ, pos, ◌<ℤ◌, ◌≤ℤ◌, length, take, drop, IfOk, IsTrue, true};
-ghost use Rattle.seq_plan.specs.Nodes.{make_term};
-ghost use Rattle.seq_plan.specs.Plan.{ask, call};
-ghost use Rattle.seq_plan.specs.WellFormed.{sights};
+ghost use Rattle.std.specs.Prelude.{SomeIff, ◌≡◌, ◌+◌, ◌<◌, ◌≤◌, ◌/◌, ◌++◌, [], ◌∷◌, ℤ, pos, ◌<ℤ◌, length, take, drop, IfOk};
 ghost use Rattle.seq_turns.specs.Turning.{Takes};
 ghost use Rattle.seq_values.specs.Depth.{depth as value_depth};
-ghost use Rattle.seq_values.specs.Model as M;
-ghost use Rattle.seq_values.specs.Plain.{plain, plains, plain_term};
-ghost use Rattle.seq_values.specs.WellFormed.{is_well_formed};
-ghost use Rattle.seq_values.specs.WellFormedTerms.{takes, is_well_formed_term};
+ghost use Rattle.seq_values.specs.Plain.{plain, plains};
 ghost use Rattle.seq_values.specs.declared.value.Value.TheVariants as V;
-ghost use Rattle.seq_values.specs.declared.words.Op.TheVariants as O;
-ghost use Rattle.seq_values.specs.declared.words.Kind.TheVariants as K;
 ghost use Rattle.fold_rows.specs.Table.{fold_group, fold_items};
 ghost use Rattle.fold_rules.specs.Left.{running, left_value, left_part, fold_on, ended};
 ghost use Rattle.fold_rules.specs.Stages.{stage_values, stage_value};
@@ -21,19 +13,15 @@ ghost use Rattle.fold_rules.specs.declared.state.AtPart.TheVariants as P;
 use crate::reducing::{after_answer, begins};
 use crate::split::split;
 use crate::stage::Stage;
-use crate::terms::second_term;
 use crate::state::{After, AtPart, AtValue, Folding, Items, State};
+use crate::terms::second_term;
 use seq_turns::{Next, Proper, ProperList, calls, makes};
 use seq_values::{CellId, Kind, Value, deepest_of};
 use seq_vector::NoMemory;
 use std::alloc::Global;
 
 /// Items are folded: as a group, or in halves.
-pub(crate) fn folds(
-    alloc: Global,
-    folding: Folding,
-    items: Items,
-) -> Result<Next<State>, NoMemory>
+pub(crate) fn folds(alloc: Global, folding: Folding, items: Items) -> Result<Next<State>, NoMemory>
     ensures { IfOk result (λ r. Takes running (fold_items folding.size (plain folding.combine.value) (plain folding.function.value) (stage_values folding.stages.items) (plains items.items) (fold_on folding)) r) }
 {
     let half = first_half(items.items.len(), folding.size);

@@ -1,16 +1,23 @@
 //! Reducer values, taken apart: the stages, from the one nearest the collection outwards, and the collection at the bottom.
-ghost use Rattle.std.specs.Prelude.{◌≡◌, ◌++◌, [], ◌∷◌, length, IfOk, IsTrue, ◌<◌, ◌≤◌};
+ghost use Rattle.std.specs.Prelude.{◌≡◌, ◌++◌, [], ◌∷◌, length, IfOk, IsTrue, ◌≤◌, true, false};
+ghost use Rattle.seq_plan.specs.Stages.{begins_with};
 ghost use Rattle.seq_values.specs.Depth.{depth};
+ghost use Rattle.seq_values.specs.Model as M;
+ghost use Rattle.seq_values.specs.Model.{◌&◌};
 ghost use Rattle.seq_values.specs.Plain.{plain};
 ghost use Rattle.seq_values.specs.WellFormed.{is_well_formed, is_well_formed_function};
 ghost use Rattle.seq_values.specs.declared.value.Value.TheVariants as V;
+ghost use Rattle.seq_values.specs.declared.words.Target.TheVariants as T;
+ghost use Rattle.fold_rows.specs.Table.{reducer_stage};
 ghost use Rattle.fold_rules.specs.Layers.{IsLayer, AreParts};
-ghost use Rattle.fold_rules.specs.Stages.{stage_value, state_value};
+ghost use Rattle.fold_rules.specs.Reading.{is_called, is_folder, is_bound, splits_kind, splits_calling};
+ghost use Rattle.fold_rules.specs.Stages.{stage_value, state_value, is_splittable, xf_of};
 
+use crate::arguments::{as_number, two_arguments};
 use crate::stage::{Bindable, Calling, Stage};
-use seq_turns::Proper;
+use seq_turns::{Proper, ProperList};
 use seq_values::{FnValue, FolderKind, Node, Target, Value};
-use seq_vector::{NoMemory, PVec, Share};
+use seq_vector::{NoMemory, Share};
 use std::alloc::Global;
 
 /// A reducer value as its stage and what it is over, or another value as it is.
@@ -77,7 +84,7 @@ fn layer_of(source: Proper) -> Result<Layer, NoMemory>
 /// A value that is no reducer value.
 fn bottom(value: Value) -> Layer
     requires well { IsTrue (is_well_formed value) }
-    requires bottom { IsBottom (plain value) }
+    requires bottom { is_called (plain value) ≡ false }
     ensures { IsLayer result value }
 {
     Layer::Bottom(Proper { value })
@@ -107,7 +114,9 @@ fn other_function(function: FnValue) -> Layer
     requires other { is_folder function.target ≡ false }
     ensures { IsLayer result (V.Function function) }
 {
-    bottom(Value::Function(function))
+    Layer::Bottom(Proper {
+        value: Value::Function(function),
+    })
 }
 
 /// What a reducer value binds.

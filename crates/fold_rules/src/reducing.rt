@@ -1,5 +1,5 @@
 //! Reductions: the elements of collections enter the stages, and what passes the last one is reduced.
-ghost use Rattle.std.specs.Prelude.{set, ◌≡◌, ◌≤ℤ◌, cond, IsTrue, ◌+◌, ◌-◌, ◌<◌, [], ◌∷◌, ◌++◌, length, drop, IfOk, false, true, pos, ◌-ℤ◌};
+ghost use Rattle.std.specs.Prelude.{set, ◌≡◌, ◌≤ℤ◌, cond, IsTrue, ◌+◌, ◌-◌, ◌<◌, [], ◌∷◌, ◌++◌, length, drop, IfOk, false, pos};
 ghost use Rattle.seq_plan.specs.Cursors.{stands};
 ghost use Rattle.seq_plan.specs.Nodes.{is_truthy};
 ghost use Rattle.seq_plan.specs.Plan.{give, seq};
@@ -9,14 +9,12 @@ ghost use Rattle.seq_turns.specs.Turning.{Takes};
 ghost use Rattle.seq_values.specs.Plain.{plain};
 ghost use Rattle.seq_values.specs.WellFormed.{is_well_formed};
 ghost use Rattle.fold_rules.specs.declared.stage.Stage.TheVariants as S;
-ghost use Rattle.fold_rules.specs.Left.{running, left_seq, left_step, left_value, ended, combined, resumed, entering, walking, place_of, onward};
+ghost use Rattle.fold_rules.specs.Left.{running, left_seq, left_value, ended, combined, resumed, entering, walking, place_of};
 ghost use Rattle.fold_rows.specs.Table.{reduce_through};
 ghost use Rattle.fold_rules.specs.Looking.{Looks};
 ghost use Rattle.fold_rules.specs.Stages.{stage_values, state_values};
 ghost use Rattle.fold_rules.specs.declared.state.AtSeq.TheVariants as Q;
-ghost use Rattle.fold_rules.specs.declared.state.AtStep.TheVariants as T;
 ghost use Rattle.fold_rules.specs.declared.state.AtValue.TheVariants as V;
-ghost use Rattle.fold_rules.specs.declared.stage.Calling.TheVariants as C;
 
 use crate::stage::{Bindable, Calling, Stage};
 use crate::state::{After, AtSeq, AtStep, AtValue, Reducing, State, Walk};
@@ -237,11 +235,7 @@ pub(crate) fn right_answered(
 {
     let called = combine.share()?;
     let args = ProperList::two(alloc, left, right)?;
-    Ok(calls(
-        State::Value(AtValue::Both { combine, parts }),
-        called,
-        args,
-    ))
+    Ok(calls(State::Value(AtValue::Both { combine, parts }), called, args))
 }
 
 /// No more of an input passes on: the innermost collection goes on.
@@ -276,10 +270,7 @@ pub(crate) fn goes_on(reducing: Reducing) -> Result<Next<State>, NoMemory>
             let sought = seek_rest(rest);
             match sought {
                 Sought::Now(what) => walk_at(reducing, later, what),
-                Sought::Ask(value) => Ok(seeks(
-                    State::Seq(AtSeq::Walk { reducing, later }),
-                    value,
-                )),
+                Sought::Ask(value) => Ok(seeks(State::Seq(AtSeq::Walk { reducing, later }), value)),
             }
         }
     }
@@ -384,11 +375,7 @@ fn output(
         walks,
         after,
     };
-    Ok(calls(
-        State::Value(AtValue::Output { reducing }),
-        called,
-        args,
-    ))
+    Ok(calls(State::Value(AtValue::Output { reducing }), called, args))
 }
 
 /// A stage calls its function with the input.

@@ -38,10 +38,7 @@ pub(crate) enum After {
     /// It is given.
     Give,
     /// It is the answer of the first part of a fold. The answers of the other parts are those of futures, of which the next one is the last here.
-    Combine {
-        combine: Proper,
-        parts: Vec<CellId>,
-    },
+    Combine { combine: Proper, parts: Vec<CellId> },
 }
 
 /// A reduction: the function and the answer so far, the stages, the collections that are walked, the innermost last, and what goes on with the answer.
@@ -104,9 +101,15 @@ pub(crate) enum AtStep {
 #[derive(Drop)]
 pub(crate) enum AtValue {
     /// The first answer of a reduction, of a collection that isn't split.
-    Init { function: Proper, source: Proper },
+    Init {
+        function: Proper,
+        source: Proper,
+    },
     /// The first answer of a group of a fold.
-    Group { folding: Folding, items: Items },
+    Group {
+        folding: Folding,
+        items: Items,
+    },
     /// What the function of a stage gave of its input. So many stages come after it.
     Stage {
         reducing: Reducing,
@@ -115,7 +118,9 @@ pub(crate) enum AtValue {
         item: Proper,
     },
     /// What the reducing function gave of an output.
-    Output { reducing: Reducing },
+    Output {
+        reducing: Reducing,
+    },
     /// Of the future of the next part, after the answer of those before it.
     Right {
         combine: Proper,

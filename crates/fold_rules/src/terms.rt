@@ -14,11 +14,7 @@ use seq_vector::{NoMemory, Share};
 use std::alloc::Global;
 
 /// The future of the second half: its items, the size of a group, the functions, and the stages.
-pub(crate) fn second_term(
-    alloc: Global,
-    folding: &Folding,
-    items: Items,
-) -> Result<Term, NoMemory>
+pub(crate) fn second_term(alloc: Global, folding: &Folding, items: Items) -> Result<Term, NoMemory>
     ensures stands { IfOk result (λ t. plain_term t ≡ record { op = O.Fold; args = M.vector (M.values (plains items.items)) ∷ M.int folding.now.size ∷ plain folding.now.combine.value ∷ plain folding.now.function.value ∷ stage_values folding.now.stages.items }) }
     ensures well { IfOk result (λ t. IsTrue (is_well_formed_term t)) }
 {
@@ -48,11 +44,7 @@ fn fold_head(alloc: Global, folding: &Folding, items: Items) -> Result<Gathered,
 }
 
 /// The stages after the values so far.
-fn with_stages(
-    alloc: Global,
-    before: Gathered,
-    stages: &[Stage],
-) -> Result<Gathered, NoMemory>
+fn with_stages(alloc: Global, before: Gathered, stages: &[Stage]) -> Result<Gathered, NoMemory>
     requires few { length before.items.items + length stages.now ≤ 4294967295 }
     requires splits { IsTrue (are_splittable stages.now) }
     ensures { IfOk result (λ all. plains all.items.items ≡ plains before.items.items ++ stage_values stages.now) }
