@@ -1,4 +1,0 @@
-pub mod Walking
-pub mod Entering
-pub mod Reads
-pub mod Peeling
