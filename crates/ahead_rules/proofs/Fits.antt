@@ -9,7 +9,7 @@ use Rattle.seq_values.specs.declared.term.Term.{Term}
 use Rattle.seq_values.specs.declared.value.Value as V
 use Rattle.seq_values.specs.declared.words.Op.TheVariants as O
 use Rattle.seq_plan.specs.WellFormed.{sight, sights, WellTerm, well_term}
-use Rattle.seq_plan.proofs.FitLemmas.{first_of_both, second_of_both}
+use Rattle.seq_plan.proofs.FitLemmas.{both, first_of_both, second_of_both}
 use Rattle.seq_plan.proofs.WellNodes.{seq_is_sequence}
 use Rattle.seq_plan.proofs.WellValues.{term_formed}
 use Rattle.ahead_rules.specs.Left.{part_in}
@@ -158,3 +158,8 @@ four_read (a ∷ []) x y z u l e f g h = absurd (omega (arith, l))
 four_read (a ∷ b ∷ []) x y z u l e f g h = absurd (omega (arith, l))
 four_read (a ∷ b ∷ c ∷ []) x y z u l e f g h = absurd (omega (arith, l))
 four_read (a ∷ b ∷ c ∷ d ∷ f ∷ xs) x y z u l e f' g h = absurd (omega (arith, l))
+
+-- what a step of `pmap` is made of
+pub step_fits : (x o vs fs v f : V.Value) (args : List V.Value) → plains args ≡ plain x ∷ plain o ∷ plain vs ∷ plain fs ∷ [] → vs ≡ v → fs ≡ f → IsTrue (is_seq (sight (plain o))) → IsTrue (is_sequence (sight (plain v))) → IsTrue (is_sequence (sight (plain f))) → takes O.Step (sights (M.values (plains args))) ≡ true
+step_fits x o vs fs v f args e p q a b c =
+    ap (λ l. takes O.Step (sights (M.values l))) e ∙ both a (both (subst (λ w. is_sequence (sight (plain w)) ≡ true) (sym p) b) (subst (λ w. is_sequence (sight (plain w)) ≡ true) (sym q) c))

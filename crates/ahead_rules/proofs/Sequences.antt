@@ -53,9 +53,6 @@ seen_is_seq s v e = subst (λ x. is_seq (sight x) ≡ true) (sym e) (seen_seq s)
 
 -- ## Lists
 
-pub four_items : (l0 l1 l2 l3 l4 : List (M.Value ℕ)) (a b c d : M.Value ℕ) → l0 ≡ [] → l1 ≡ l0 ++ a ∷ [] → l2 ≡ l1 ++ b ∷ [] → l3 ≡ l2 ++ c ∷ [] → l4 ≡ l3 ++ d ∷ [] → l4 ≡ a ∷ b ∷ c ∷ d ∷ []
-four_items l0 l1 l2 l3 l4 a b c d e0 e1 e2 e3 e4 = rw (e4, e3, e2, e1, e0) refl
-
 pub longer : (xs ys : List Value) (x : Value) → ys ≡ xs ++ x ∷ [] → length ys ≡ length xs + 1
 longer xs ys x e = ap length e ∙ length-append xs (x ∷ [])
 

@@ -96,7 +96,6 @@ fn derefs_next(
     }
 }
 
-#[tactic(auto, using(crate::proofs::Sequences::some_left))]
 fn derefs_item(
     answers: Gathered,
     items: ProperList,

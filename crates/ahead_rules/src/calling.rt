@@ -134,7 +134,6 @@ pub(crate) fn items_done(
     Ok(makes_part(AtPart::Items { items }, Kind::Lazy, op, args))
 }
 
-#[tactic(auto, using(crate::proofs::Sequences::some_left))]
 fn rets_calls(
     alloc: Global,
     function: Proper,

@@ -1,5 +1,5 @@
 //! What is handed from one turn to another: sequences, numbers and parts.
-ghost use Rattle.std.specs.Prelude.{◌≡◌, IfOk, IsTrue, true, [], ◌∷◌};
+ghost use Rattle.std.specs.Prelude.{length, ◌+◌, ◌≤◌, ◌++◌, ◌≡◌, IfOk, IsTrue, true, [], ◌∷◌};
 ghost use Rattle.seq_plan.specs.Cursors.{stands};
 ghost use Rattle.seq_plan.specs.Nodes.{first_of, rest_of, make_term};
 ghost use Rattle.seq_plan.specs.WellFormed.{sight, sights};
@@ -144,6 +144,17 @@ pub(crate) fn as_number(value: Proper) -> Option<i64>
     number_of(&value.value)
 }
 
+/// Two more values.
+fn and_two(before: Gathered, first: Proper, second: Proper) -> Result<Gathered, NoMemory>
+    requires { length before.items.items + 2 ≤ 4294967295 }
+    ensures stands { IfOk result (λ all. plains all.items.items ≡ plains before.items.items ++ plain first.value ∷ plain second.value ∷ []) }
+    ensures long { IfOk result (λ all. length all.items.items ≡ length before.items.items + 2) }
+{
+    let one = before.and(first)?;
+    let all = one.and(second)?;
+    Ok(all)
+}
+
 /// Four values.
 pub(crate) fn four(
     alloc: Global,
@@ -154,11 +165,9 @@ pub(crate) fn four(
 ) -> Result<ProperList, NoMemory>
     ensures { IfOk result (λ all. plains all.items ≡ plain first.value ∷ plain second.value ∷ plain third.value ∷ plain fourth.value ∷ []) }
 {
-    let none = Gathered::with_room(alloc, 4)?;
-    let one = none.and(first)?;
-    let two = one.and(second)?;
-    let three = two.and(third)?;
-    let all = three.and(fourth)?;
+    let none = Gathered::none(alloc);
+    let half = and_two(none, first, second)?;
+    let all = and_two(half, third, fourth)?;
     let list = all.listed(alloc)?;
     Ok(list)
 }

@@ -8,5 +8,5 @@ use Rattle.ahead_rules.proofs.beginning.ahead_counted.Goals as goal
 pub returns-in-None : goal.returns-in-None
 returns-in-None c = λ size. ahead_no_number size (plain c.args.count.value) (plain c.args.source.value) c.no_number.result (sym c.as_number-number.ensures ∙ c.in-None.is) c.no_number.ensures
 
-pub returns-in-Some : goal.returns-in-Some
-returns-in-Some c = λ size. ahead_number size (plain c.args.count.value) (plain c.args.source.value) c.in-Some.count c.in_ok-next.next (sym c.as_number-number.ensures ∙ c.in-Some.is) (handed (λ n. ahead_rule n (plain c.args.source.value)) c.in-Some.count _ c.in_ok-next.next (to_z-of_z w64 c.in-Some.count (search (rules, arith))) c.in_ok-next.ensures)
+pub returns-in_ok-next-in-Some : goal.returns-in_ok-next-in-Some
+returns-in_ok-next-in-Some c = λ size. ahead_number size (plain c.args.count.value) (plain c.args.source.value) c.in-Some.count c.in_ok-next-in-Some.next (sym c.as_number-number.ensures ∙ c.in-Some.is) (handed (λ n. ahead_rule n (plain c.args.source.value)) c.in-Some.count _ c.in_ok-next-in-Some.next (to_z-of_z w64 c.in-Some.count (search (rules, arith))) c.in_ok-next-in-Some.ensures)
