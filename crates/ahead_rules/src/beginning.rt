@@ -1,5 +1,5 @@
 //! How each word and each term begins.
-ghost use Rattle.std.specs.Prelude.{◌≡◌, ℕ, ◌+◌, ◌<◌, [], ◌∷◌, drop, length, IfOk, true};
+ghost use Rattle.std.specs.Prelude.{None, Some, ◌≢◌, ◌≡◌, ℕ, ◌+◌, ◌<◌, [], ◌∷◌, drop, length, IfOk, true};
 ghost use Rattle.seq_base.specs.declared.thrown.Thrown.TheVariants.{BadType};
 ghost use Rattle.seq_plan.specs.Plan.{throw};
 ghost use Rattle.seq_plan.specs.WellFormed.{sights};
@@ -9,7 +9,7 @@ ghost use Rattle.seq_values.specs.Plain.{plain, plains};
 ghost use Rattle.seq_values.specs.WellFormedTerms.{takes};
 ghost use Rattle.seq_values.specs.declared.words.Op.TheVariants as O;
 ghost use Rattle.ahead_rows.specs.Table.{pmap_call, seque_call, rets_rule, derefs_rule, ahead_term, ahead_call};
-ghost use Rattle.ahead_rules.specs.Left.{running, left_begin};
+ghost use Rattle.ahead_rules.specs.Left.{running, left_begin, part_in};
 ghost use Rattle.ahead_rules.specs.declared.state.AtBegin.TheVariants as B;
 
 use crate::asking::derefs_at;
@@ -20,7 +20,7 @@ use crate::stepping::{pmap_begins, step_begins};
 use crate::taking::{ahead_begins, ahead_of_begins, near_begins, seque_begins};
 use seq_base::Thrown;
 use seq_turns::{Next, Proper, ProperList, Sought, seek, seeks, throws};
-use seq_values::{Builtin, Op, Term};
+use seq_values::{Builtin, CellId, Op, Term};
 use seq_vector::NoMemory;
 use std::alloc::Global;
 
@@ -307,17 +307,23 @@ fn near(alloc: Global, args: &ProperList) -> Result<Next<State>, NoMemory>
     Ok(next)
 }
 
-#[tactic(auto, using(crate::proofs::Fits::near_part))]
 fn near_of(alloc: Global, source: Proper, ahead: Proper) -> Result<Next<State>, NoMemory>
     requires { takes O.Near (sights (M.values (plain source.value ∷ plain ahead.value ∷ []))) ≡ true }
     ensures { IfOk result (λ r. (size : ℕ) → Takes running (ahead_term size O.Near (plain source.value ∷ plain ahead.value ∷ [])) r) }
 {
-    let part = as_part(ahead);
+    let id = known_part(ahead);
+    let next = near_begins(alloc, source, id)?;
+    Ok(next)
+}
+
+/// The part that a value is, of which it is known that it is one.
+fn known_part(value: Proper) -> CellId
+    requires { part_in (plain value.value) ≢ None }
+    ensures { part_in (plain value.value) ≡ Some result }
+{
+    let part = as_part(value);
     match part {
-        Some(ahead) => {
-            let next = near_begins(alloc, source, ahead)?;
-            Ok(next)
-        }
+        Some(id) => id,
         None => unreachable!(),
     }
 }
