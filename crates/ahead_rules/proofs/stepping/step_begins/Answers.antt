@@ -1,0 +1,18 @@
+use Rattle.seq_turns.proofs.Taking.{in_ok}
+use Rattle.ahead_rules.specs.Left.{running}
+use Rattle.std.proofs.Common.{refl}
+use Rattle.ahead_rules.specs.Left.{left_seq}
+use Rattle.ahead_rules.specs.declared.state.AtSeq.TheVariants as Q
+use Rattle.seq_turns.specs.Seen.{seen}
+use Rattle.ahead_rules.proofs.Moves.{seq_now, seq_ask}
+use Rattle.ahead_rules.proofs.stepping.step_begins.Goals as goal
+
+pub returns-in-Now : goal.returns-in-Now
+returns-in-Now c =
+    let q = rw c.in-Now.is at c.seek-sought.ensures in
+    in_ok running c.step_at.result (λ n h. seq_now c.args.further.value c.args.further.value (seen c.in-Now.what) (left_seq (Q.Step c.args.element c.args.others c.args.values)) n refl q h) c.step_at.ensures
+
+pub returns-in-Ask : goal.returns-in-Ask
+returns-in-Ask c =
+    let q = rw c.in-Ask.is at c.seek-sought.ensures in
+    seq_ask c.args.further.value c.args.further.value c.in-Ask.value.value (left_seq (Q.Step c.args.element c.args.others c.args.values)) c.seeks.result refl q.0 c.seeks.ensures
