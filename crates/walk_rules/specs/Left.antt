@@ -12,8 +12,8 @@ use Rattle.seq_turns.specs.Turning.{Wait, to_begin, a_step, a_seq, a_value, noth
 use Rattle.seq_turns.specs.declared.next.Next.{Next}
 use Rattle.seq_turns.specs.declared.proper.Proper.{Proper}
 use Rattle.lazy_rows.specs.Table.{walk_call, walk_round}
-use Rattle.lazy_rows.specs.Walks.{first_rule, failing, members, count_goes_on, conj_each, unless_reduced}
-use Rattle.lazy_rows.specs.Equal.{pair_on, equal_each}
+use Rattle.lazy_rows.specs.Walks.{first_rule, failing, members, count_goes_on, conj_each, every_call, some_call, unless_reduced}
+use Rattle.lazy_rows.specs.Equal.{pair_on, equal_each, equal_call, unequal_call}
 use Rattle.walk_rules.specs.declared.state.Once.{Once}
 use Rattle.walk_rules.specs.declared.state.Once.TheVariants as O
 use Rattle.walk_rules.specs.declared.state.Purpose.{Purpose}
@@ -53,6 +53,16 @@ abbrev pub searches : Quest → M.Value ℕ → M.Value ℕ → Plan ℕ
 searches A.Every p s = go every_from (p ∷ s ∷ []) give
 searches A.Any p s = go some_from (p ∷ s ∷ []) give
 
+-- what the word gives where no element decided
+abbrev pub searched : Quest → Plan ℕ
+searched A.Every = give (M.bool true)
+searched A.Any = give M.nil
+
+-- the row of the word
+abbrev pub search_call : Quest → List (M.Value ℕ) → Plan ℕ
+search_call A.Every xs = every_call xs
+search_call A.Any xs = some_call xs
+
 -- what the test answered of an element, and what comes after the element
 abbrev pub decides : Quest → M.Value ℕ → M.Value ℕ → M.Value ℕ → Plan ℕ
 decides A.Every p r y = if_true y (seq r (λ t. searches A.Every p t)) (give (M.bool false))
@@ -81,6 +91,11 @@ answers true b = give (M.bool (not (is_truthy b)))
 abbrev pub args_left : Bool → List (M.Value ℕ) → M.Value ℕ → Plan ℕ
 args_left negated [] b = answers negated b
 args_left negated (x ∷ ys) b = if_true b (equal_each x ys (answers negated)) (answers negated b)
+
+-- the row of `=` or `not=`
+abbrev pub equals : Bool → List (M.Value ℕ) → Plan ℕ
+equals false xs = equal_call xs
+equals true xs = unequal_call xs
 
 -- the last rests come first
 abbrev pub resolved_by : (M.Value ℕ → Plan ℕ) → List Rests → M.Value ℕ → Plan ℕ

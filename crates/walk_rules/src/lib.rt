@@ -3,6 +3,7 @@
 
 mod arguments;
 mod comparing;
+mod counted;
 mod counting;
 mod gathering;
 mod joining;

@@ -21,3 +21,10 @@ pub(crate) enum Shape {
     Vector(Listed),
     Another(Proper),
 }
+
+/// The value in a reduced one, or a value that isn't reduced.
+#[derive(Drop)]
+pub(crate) enum Unwrapped {
+    Reduced(Proper),
+    Another(Proper),
+}
