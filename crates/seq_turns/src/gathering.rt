@@ -55,7 +55,7 @@ impl Gathered {
         self.items.len()
     }
 
-    #[tactic(auto, using(crate::proofs::Handling::more_well, crate::proofs::Handling::more_long))]
+    #[tactic(auto, using(crate::proofs::Listing::more_well, crate::proofs::Listing::more_long))]
     /// One more value at the end.
     pub fn and(self, last: Proper) -> Result<Gathered, NoMemory>
         requires { length self.items.items < 4294967295 }
@@ -66,7 +66,7 @@ impl Gathered {
         Ok(Gathered { items })
     }
 
-    #[tactic(auto, using(crate::proofs::Handling::grows_all, crate::proofs::Handling::grows_no_more))]
+    #[tactic(auto, using(crate::proofs::Listing::grows_all, crate::proofs::Listing::grows_no_more))]
     /// One more value at the end, unless there are as many as there may be.
     pub fn grown(self, last: Proper) -> Result<Grown, NoMemory>
         ensures { IfOk result (λ g. Grows (with_members (plains self.items.items ++ plain last.value ∷ [])) g) }
@@ -78,7 +78,7 @@ impl Gathered {
         Ok(Grown::All(all))
     }
 
-    #[tactic(auto, using(crate::proofs::Handling::turned_well, crate::proofs::Handling::turned_long))]
+    #[tactic(auto, using(crate::proofs::Listing::turned_well, crate::proofs::Listing::turned_long))]
     /// The values from the last on.
     pub fn turned(self) -> Gathered
         ensures { result.items.items ≡ reverse self.items.items }

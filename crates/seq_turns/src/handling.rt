@@ -86,7 +86,7 @@ impl ProperList {
         Ok(ProperList { items })
     }
 
-    #[tactic(auto, using(crate::proofs::Handling::two_well))]
+    #[tactic(auto, using(crate::proofs::Listing::two_well))]
     /// Two values.
     pub fn two(alloc: Global, first: Proper, second: Proper) -> Result<ProperList, NoMemory>
         ensures same { IfOk result (λ all. all.items ≡ first.value ∷ second.value ∷ []) }
@@ -103,7 +103,7 @@ impl ProperList {
         self.items.len()
     }
 
-    #[tactic(auto, using(crate::proofs::Handling::item_well, crate::proofs::Handling::drop_none, crate::proofs::Handling::drop_shared))]
+    #[tactic(auto, using(crate::proofs::Listing::item_well, crate::proofs::Listing::drop_none, crate::proofs::Listing::drop_shared))]
     /// The value at a place, with one more owner, and `None` exactly at the end.
     pub fn get(&self, at: usize) -> Result<Option<Proper>, NoMemory>
         ensures { IfOk result (λ x. MatchOption x (drop at self.now.items ≡ []) (λ v. drop at self.now.items ≡ v.value ∷ drop (at + 1) self.now.items)) }

@@ -36,7 +36,7 @@ fn too_deep_items(items: PVec<Value>) -> Made
 }
 
 /// A vector of the items.
-#[tactic(auto, using(crate::proofs::Making::vector_goes, crate::proofs::Making::vector_deep, seq_values::proofs::WellFormedLemmas::list_keeps, seq_values::proofs::WellFormedLemmas::all_within))]
+#[tactic(auto, using(crate::proofs::Limits::value_goes, crate::proofs::Limits::vector_deep, seq_values::proofs::WellFormedLemmas::list_keeps, seq_values::proofs::WellFormedLemmas::all_within))]
 pub fn vector_made(items: ProperList) -> Made
     ensures { Makes (with_value (M.vector (M.values (plains items.items)))) result }
 {
@@ -49,7 +49,7 @@ pub fn vector_made(items: ProperList) -> Made
 }
 
 /// A function with the arguments that are bound to it.
-#[tactic(auto, using(crate::proofs::Making::function_goes, crate::proofs::Making::function_deep, seq_values::proofs::WellFormedLemmas::list_keeps, seq_values::proofs::WellFormedLemmas::all_within))]
+#[tactic(auto, using(crate::proofs::Limits::function_goes, crate::proofs::Limits::function_deep, seq_values::proofs::WellFormedLemmas::list_keeps, seq_values::proofs::WellFormedLemmas::all_within))]
 pub fn function_made(target: Target, bound: ProperList) -> Made
     requires { IsTrue (binds target (map sight_of bound.items)) }
     ensures { Makes (with_value (M.function target (M.values (plains bound.items)))) result }
@@ -63,7 +63,7 @@ pub fn function_made(target: Target, bound: ProperList) -> Made
 }
 
 /// An element before the part for the rest.
-#[tactic(auto, using(crate::proofs::Making::first_goes, crate::proofs::Making::first_deep, seq_values::proofs::WellFormedLemmas::value_keeps))]
+#[tactic(auto, using(crate::proofs::Limits::first_goes, crate::proofs::Limits::first_deep, seq_values::proofs::WellFormedLemmas::value_keeps))]
 pub fn first_before(alloc: Global, first: Proper, id: CellId) -> Result<Made, NoMemory>
     ensures { IfOk result (λ m. Makes (with_value (M.cons (plain first.value M.& M.no_values) (M.cell id))) m) }
 {
@@ -75,7 +75,7 @@ pub fn first_before(alloc: Global, first: Proper, id: CellId) -> Result<Made, No
 }
 
 /// A chunk of the elements before the part for the rest, or the part itself where there are none.
-#[tactic(auto, using(crate::proofs::Making::items_goes, crate::proofs::Making::items_deep, crate::proofs::Making::items_none, seq_values::proofs::WellFormedLemmas::list_keeps, seq_values::proofs::WellFormedLemmas::all_within))]
+#[tactic(auto, using(crate::proofs::Limits::items_goes, crate::proofs::Limits::items_deep, crate::proofs::Limits::items_none, seq_values::proofs::WellFormedLemmas::list_keeps, seq_values::proofs::WellFormedLemmas::all_within))]
 pub fn items_before(alloc: Global, items: ProperList, id: CellId) -> Result<Made, NoMemory>
     ensures { IfOk result (λ m. Makes (with_value (with_items (M.values (plains items.items)) (M.cell id))) m) }
 {
@@ -90,7 +90,7 @@ pub fn items_before(alloc: Global, items: ProperList, id: CellId) -> Result<Made
 }
 
 /// A chunk of the elements, after which nothing comes.
-#[tactic(auto, using(crate::proofs::Making::end_goes, crate::proofs::Making::end_deep, seq_values::proofs::WellFormedLemmas::list_keeps, seq_values::proofs::WellFormedLemmas::all_within))]
+#[tactic(auto, using(crate::proofs::Limits::end_goes, crate::proofs::Limits::end_deep, seq_values::proofs::WellFormedLemmas::list_keeps, seq_values::proofs::WellFormedLemmas::all_within))]
 pub fn chunk_and_end(alloc: Global, items: ProperList) -> Result<Made, NoMemory>
     requires { 0 < length items.items }
     ensures { IfOk result (λ m. Makes (with_value (M.chunk (M.values (plains items.items)) M.empty)) m) }
@@ -117,7 +117,7 @@ fn before_nil(alloc: Global, heads: PVec<Value>) -> Result<Value, NoMemory>
 }
 
 /// A list, given its elements from the last on.
-#[tactic(auto, using(crate::proofs::Making::heads_goes, crate::proofs::Making::heads_deep, crate::proofs::Making::heads_none, seq_values::proofs::WellFormedLemmas::list_keeps, seq_values::proofs::WellFormedLemmas::all_within))]
+#[tactic(auto, using(crate::proofs::Limits::heads_goes, crate::proofs::Limits::heads_deep, crate::proofs::Limits::heads_none, seq_values::proofs::WellFormedLemmas::list_keeps, seq_values::proofs::WellFormedLemmas::all_within))]
 pub fn list_of_heads(alloc: Global, heads: ProperList) -> Result<Made, NoMemory>
     ensures { IfOk result (λ m. Makes (with_value (list_of (reverse (plains heads.items)))) m) }
 {
@@ -134,7 +134,7 @@ pub fn list_of_heads(alloc: Global, heads: ProperList) -> Result<Made, NoMemory>
 }
 
 /// A list of the elements.
-#[tactic(auto, using(crate::proofs::Making::list_turned))]
+#[tactic(auto, using(crate::proofs::Limits::list_turned))]
 pub fn list_made(alloc: Global, members: Gathered) -> Result<Made, NoMemory>
     ensures { IfOk result (λ m. Makes (with_value (list_of (plains members.items.items))) m) }
 {
@@ -144,7 +144,7 @@ pub fn list_made(alloc: Global, members: Gathered) -> Result<Made, NoMemory>
 }
 
 /// A list of the members, as one element before the part for the rest.
-#[tactic(auto, using(crate::proofs::Making::list_in, crate::proofs::Making::list_not))]
+#[tactic(auto, using(crate::proofs::Limits::list_in, crate::proofs::Limits::list_not))]
 pub fn list_before(alloc: Global, members: Gathered, id: CellId) -> Result<Made, NoMemory>
     ensures { IfOk result (λ m. Makes (with_value (M.cons (list_of (plains members.items.items) M.& M.no_values) (M.cell id))) m) }
 {
@@ -190,7 +190,7 @@ fn appended(
 }
 
 /// A vector with one more item, the last.
-#[tactic(auto, using(crate::proofs::Making::more_goes, crate::proofs::Making::more_deep, crate::proofs::Making::more_many, seq_values::proofs::WellFormedLemmas::value_keeps))]
+#[tactic(auto, using(crate::proofs::Limits::more_goes, crate::proofs::Limits::more_deep, crate::proofs::Limits::more_many, seq_values::proofs::WellFormedLemmas::value_keeps))]
 pub fn one_more(alloc: Global, depth: u32, items: PVec<Value>, last: Proper) -> Result<Made, NoMemory>
     requires { IsTrue (is_well_formed (V.Vector depth items)) }
     ensures { IfOk result (λ m. Makes (λ k. with_members (plains items ++ plain last.value ∷ []) (λ ys. with_value (M.vector (M.values ys)) k)) m) }
@@ -213,13 +213,16 @@ fn no_sequence(first: Value, rest: Value) -> Made
 }
 
 /// An element before a rest that is no `Cons`.
-#[tactic(auto, using(crate::proofs::Making::rest_goes, crate::proofs::Making::rest_deep, seq_values::proofs::WellFormedLemmas::value_keeps))]
+#[tactic(auto, using(crate::proofs::Limits::value_goes, crate::proofs::Limits::rest_deep_first, crate::proofs::Limits::rest_deep_rest, seq_values::proofs::WellFormedLemmas::value_keeps))]
 fn before_rest(alloc: Global, first: Proper, rest: Value) -> Result<Made, NoMemory>
     requires well { IsTrue (is_well_formed rest) }
     requires ends { IsTrue (ends_cons (sight_of rest)) }
     ensures { IfOk result (λ m. Makes (with_value (M.cons (plain first.value M.& M.no_values) (plain rest))) m) }
 {
-    if depth_of(&first.value) > 255 || depth_of(&rest) > 255 {
+    if depth_of(&first.value) > 255 {
+        return Ok(too_deep_both(first.value, rest));
+    }
+    if depth_of(&rest) > 255 {
         return Ok(too_deep_both(first.value, rest));
     }
     let value = before(alloc, first.value, rest)?;
@@ -268,7 +271,7 @@ fn too_deep_head(heads: PVec<Value>, rest: Held, first: Value) -> Made
 }
 
 /// An element before a `Cons`, which takes it among its heads.
-#[tactic(auto, using(crate::proofs::Making::head_goes, crate::proofs::Making::head_deep, crate::proofs::Making::head_many, seq_values::proofs::WellFormedLemmas::value_keeps))]
+#[tactic(auto, using(crate::proofs::Limits::head_goes, crate::proofs::Limits::head_deep, crate::proofs::Limits::head_many, seq_values::proofs::WellFormedLemmas::value_keeps))]
 fn before_cons(
     alloc: Global,
     first: Proper,
@@ -290,7 +293,7 @@ fn before_cons(
 }
 
 /// An element before a node.
-#[tactic(auto, using(crate::proofs::Making::first_empty, crate::proofs::Making::first_cons, crate::proofs::Making::first_other, seq_values::proofs::WellFormedLemmas::node_well))]
+#[tactic(auto, using(crate::proofs::Limits::before_empty, crate::proofs::Limits::before_cons, crate::proofs::Limits::before_chunk, crate::proofs::Limits::before_range, crate::proofs::Limits::before_vec_seq, seq_values::proofs::WellFormedLemmas::node_well))]
 fn before_node(alloc: Global, first: Proper, node: Node) -> Result<Made, NoMemory>
     requires { IsTrue (is_well_formed_node node) }
     ensures { IfOk result (λ m. Makes (with_first (plain first.value) (plain (V.Node node))) m) }
@@ -315,7 +318,7 @@ fn before_node(alloc: Global, first: Proper, node: Node) -> Result<Made, NoMemor
 }
 
 /// An element before the items of a vector.
-#[tactic(auto, using(crate::proofs::Making::first_items, crate::proofs::Making::first_no_items, seq_values::proofs::WellFormedLemmas::vector_seq_well, seq_values::proofs::WellFormedLemmas::node_well))]
+#[tactic(auto, using(crate::proofs::Limits::before_items, crate::proofs::Limits::before_no_items, seq_values::proofs::WellFormedLemmas::vector_seq_well, seq_values::proofs::WellFormedLemmas::node_well))]
 fn before_items(
     alloc: Global,
     first: Proper,
@@ -358,4 +361,12 @@ pub fn put_first(alloc: Global, first: Proper, rest: Proper) -> Result<Made, NoM
         }
         Value::Cell(id) => before_rest(alloc, first, Value::Cell(id)),
     }
+}
+
+/// An element before a sequence, as `cons` puts it.
+pub fn put_first(alloc: Global, first: Proper, rest: Proper) -> Result<Made, NoMemory>
+    ensures { IfOk result (λ m. Makes (with_first (plain first.value) (plain rest.value)) m) }
+{
+    let whole = before_value(alloc, first, rest.value)?;
+    Ok(whole)
 }

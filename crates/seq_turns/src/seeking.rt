@@ -86,11 +86,11 @@ fn items_sought(depth: u32, items: PVec<Value>) -> Seen
 }
 
 #[tactic(auto, using(seq_values::proofs::WellFormedLemmas::node_in))]
-/// What `seq` of a value finds.
-pub fn seek(value: Proper) -> Sought
-    ensures { Finds result (plain value.value) }
+fn value_sought(value: Value) -> Sought
+    requires { IsTrue (is_well_formed value) }
+    ensures { Finds result (plain value) }
 {
-    match value.value {
+    match value {
         Value::Nil => Sought::Now(Seen::Nil),
         Value::Bool(truth) => Sought::Ask(Proper {
             value: Value::Bool(truth),
@@ -116,6 +116,13 @@ pub fn seek(value: Proper) -> Sought
             value: Value::Cell(id),
         }),
     }
+}
+
+/// What `seq` of a value finds.
+pub fn seek(value: Proper) -> Sought
+    ensures { Finds result (plain value.value) }
+{
+    value_sought(value.value)
 }
 
 /// What `seq` finds of what comes after an element.

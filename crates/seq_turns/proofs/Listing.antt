@@ -79,3 +79,6 @@ turned_well (x ∷ xs) w =
 
 pub turned_long : (xs : List Value) → length xs ≤ 4294967295 → length (reverse xs) ≤ 4294967295
 turned_long xs h = omega (arith, length-reverse xs)
+
+pub one_longer : (xs ys : List Value) (x : Value) (n : ℕ) → length xs ≡ n → ys ≡ xs ++ x ∷ [] → length ys ≡ n + 1
+one_longer xs ys x n e p = ap length p ∙ length-append xs (x ∷ []) ∙ ap (λ m. m + 1) e
