@@ -111,11 +111,7 @@ fn gives_count(count: i64) -> Next<State>
 
 /// A round of the loop, with the count so far.
 #[tactic(auto, using(crate::proofs::Counts::count_ends_here))]
-pub(crate) fn count_at(
-    alloc: Global,
-    count: i64,
-    what: Seen,
-) -> Result<Next<State>, NoMemory>
+pub(crate) fn count_at(alloc: Global, count: i64, what: Seen) -> Result<Next<State>, NoMemory>
     ensures { IfOk result (λ r. Takes (left_seq (Q.Count count) (seen what)) r) }
 {
     match what {
@@ -125,11 +121,7 @@ pub(crate) fn count_at(
 }
 
 #[tactic(auto, using(crate::proofs::Counts::counts_whole, crate::proofs::Counts::counts_one))]
-fn count_place(
-    alloc: Global,
-    count: i64,
-    place: Cursor,
-) -> Result<Next<State>, NoMemory>
+fn count_place(alloc: Global, count: i64, place: Cursor) -> Result<Next<State>, NoMemory>
     ensures { IfOk result (λ r. Takes (left_seq (Q.Count count) (stands place)) r) }
 {
     match counted(alloc, place)? {
@@ -200,18 +192,16 @@ fn left_in_vector(node: Proper) -> u64
     ensures { vector_left (plain node.value) ≡ Some (pos result) }
 {
     match node.value {
-        Value::Node(Node::VecSeq { items, at, .. }) => items.len().saturating_sub(at as usize) as u64,
+        Value::Node(Node::VecSeq { items, at, .. }) => items
+            .len()
+            .saturating_sub(at as usize) as u64,
         _ => unreachable!(),
     }
 }
 
 /// An element was counted.
 #[tactic(auto, using(crate::proofs::Counts::count_steps, crate::proofs::Counts::count_over))]
-pub(crate) fn count_step(
-    alloc: Global,
-    count: i64,
-    place: Cursor,
-) -> Result<Next<State>, NoMemory>
+pub(crate) fn count_step(alloc: Global, count: i64, place: Cursor) -> Result<Next<State>, NoMemory>
     ensures { IfOk result (λ r. Takes (left_step (T.Count count place)) r) }
 {
     if count == 9223372036854775807 {

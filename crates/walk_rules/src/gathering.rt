@@ -97,7 +97,7 @@ fn between(alloc: Global, args: ProperList) -> Result<Gathered, NoMemory>
     requires { 2 ≤ length args.items }
     ensures { IfOk result (λ kept. kept.items.items ++ drop (length args.items - 1) args.items ≡ drop 1 args.items) }
 {
-    let last = args.len() - 1;
+    let last = args.items.len() - 1;
     let mut kept = Gathered::with_room(alloc, last)?;
     for at in 1..last {
         let one = argument(&args, at)?;

@@ -45,13 +45,23 @@ pub(crate) fn begin_conj(alloc: Global, args: ProperList) -> Result<Next<State>,
         return Ok(ends_empty_vector(args));
     }
     let whole = argument(&args, 0)?;
-    if is_cell(&whole.value) && args.len() > 1 {
+    if args.len() == 1 {
+        return Ok(ends_with(whole, args));
+    }
+    if is_cell(&whole.value) {
         return Ok(start(alloc, AtSeq::Conj { args }, whole)?);
     }
     Ok(conj_all(alloc, whole, args)?)
 }
 
-#[tactic(auto, using(crate::proofs::Joins::empty_vector))]
+/// A collection alone is itself.
+fn ends_with(whole: Proper, args: ProperList) -> Next<State>
+    ensures { Takes (give (plain whole.value)) result }
+{
+    ends(whole)
+}
+
+#[tactic(auto, using(crate::proofs::Joins::empty_made))]
 fn ends_empty_vector(args: ProperList) -> Next<State>
     ensures { Takes (give (M.vector M.no_values)) result }
 {
@@ -60,11 +70,7 @@ fn ends_empty_vector(args: ProperList) -> Next<State>
 
 /// The seq of the lazy part is there.
 #[tactic(auto, using(crate::proofs::Joins::conj_seen))]
-pub(crate) fn conj_at(
-    alloc: Global,
-    args: ProperList,
-    what: Seen,
-) -> Result<Next<State>, NoMemory>
+pub(crate) fn conj_at(alloc: Global, args: ProperList, what: Seen) -> Result<Next<State>, NoMemory>
     ensures { IfOk result (λ r. Takes (left_seq (Q.Conj args) (seen what)) r) }
 {
     let whole = seen_value(alloc, what)?;
@@ -72,11 +78,7 @@ pub(crate) fn conj_at(
 }
 
 /// All arguments but the first are put into the collection, one after the other.
-fn conj_all(
-    alloc: Global,
-    whole: Proper,
-    args: ProperList,
-) -> Result<Next<State>, NoMemory>
+fn conj_all(alloc: Global, whole: Proper, args: ProperList) -> Result<Next<State>, NoMemory>
     ensures { IfOk result (λ r. Takes (conj_each (plain whole.value) (plains (drop 1 args.items))) r) }
 {
     let mut whole = whole;

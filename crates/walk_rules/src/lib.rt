@@ -20,4 +20,4 @@ mod turns;
 mod ways;
 
 pub use state::RuleState;
-pub use turns::{begin_word, turn};
+pub use turns::{begin_word, turn, walks};

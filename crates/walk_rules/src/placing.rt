@@ -98,11 +98,7 @@ fn nowhere(default: Option<Proper>) -> Next<State>
 
 /// The item at a place of a vector.
 #[tactic(auto, using(crate::proofs::Places::is_there, crate::proofs::Places::is_nowhere))]
-fn nth_listed(
-    listed: Listed,
-    index: i64,
-    default: Option<Proper>,
-) -> Result<Next<State>, NoMemory>
+fn nth_listed(listed: Listed, index: i64, default: Option<Proper>) -> Result<Next<State>, NoMemory>
     ensures { IfOk result (λ r. Takes (nth_of_vector index (default_of default) (plains listed.items)) r) }
 {
     match item(listed, index)? {
@@ -173,11 +169,7 @@ pub(crate) fn nth_at(
 }
 
 #[tactic(auto, using(crate::proofs::Places::nth_here, crate::proofs::Places::nth_goes))]
-fn nth_place(
-    left: i64,
-    default: Option<Proper>,
-    place: Cursor,
-) -> Result<Next<State>, NoMemory>
+fn nth_place(left: i64, default: Option<Proper>, place: Cursor) -> Result<Next<State>, NoMemory>
     ensures { IfOk result (λ r. Takes (left_seq (Q.Nth left default) (stands place)) r) }
 {
     if left <= 0 {

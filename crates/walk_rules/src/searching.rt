@@ -186,12 +186,7 @@ fn ends_with(answer: Proper, test: Proper, rest: Rest) -> Next<State>
     ends(answer)
 }
 
-fn any_on(
-    alloc: Global,
-    test: Proper,
-    rest: Rest,
-    answer: Proper,
-) -> Result<Next<State>, NoMemory>
+fn any_on(alloc: Global, test: Proper, rest: Rest, answer: Proper) -> Result<Next<State>, NoMemory>
     ensures { IfOk result (λ r. Takes (seq (rested rest) (λ t. searches Quest.Any (plain test.value) t)) r) }
 {
     let quest = Quest::Any;

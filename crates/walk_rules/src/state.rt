@@ -62,54 +62,23 @@ pub(crate) struct Pending {
 pub(crate) enum AtSeq {
     Once(Once),
     /// `nth`, where the place isn't looked at yet.
-    Place {
-        index: i64,
-        default: Option<Proper>,
-    },
+    Place { index: i64, default: Option<Proper> },
     /// `nth`, with so many elements to pass.
-    Nth {
-        left: i64,
-        default: Option<Proper>,
-    },
+    Nth { left: i64, default: Option<Proper> },
     /// `last`, with the last element so far.
-    Last {
-        answer: Proper,
-    },
+    Last { answer: Proper },
     /// `count`, with the count so far.
-    Count {
-        count: i64,
-    },
+    Count { count: i64 },
     /// `conj` onto a lazy part, which is the first of the arguments.
-    Conj {
-        args: ProperList,
-    },
-    Gather {
-        kept: Gathered,
-        purpose: Purpose,
-    },
-    Doall {
-        whole: Proper,
-    },
-    Search {
-        quest: Quest,
-        test: Proper,
-    },
+    Conj { args: ProperList },
+    Gather { kept: Gathered, purpose: Purpose },
+    Doall { whole: Proper },
+    Search { quest: Quest, test: Proper },
     /// `reduce` without a first value.
-    ReduceFirst {
-        function: Proper,
-    },
-    Reduce {
-        function: Proper,
-        answer: Proper,
-    },
-    EqualLeft {
-        right: Rest,
-        pending: Pending,
-    },
-    EqualRight {
-        left: Seen,
-        pending: Pending,
-    },
+    ReduceFirst { function: Proper },
+    Reduce { function: Proper, answer: Proper },
+    EqualLeft { right: Rest, pending: Pending },
+    EqualRight { left: Seen, pending: Pending },
 }
 
 /// A rule that waits for its own step.

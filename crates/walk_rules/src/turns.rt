@@ -27,6 +27,36 @@ use seq_values::{Answer, Builtin, Turn, Value};
 use seq_vector::{NoMemory, PVec};
 use std::alloc::Global;
 
+/// Whether the rule of a word is one of these.
+pub fn walks(word: Builtin) -> bool
+    ensures { result ≡ is_walk_word word }
+{
+    match word {
+        Builtin::Seq => true,
+        Builtin::First => true,
+        Builtin::Second => true,
+        Builtin::Rest => true,
+        Builtin::Next => true,
+        Builtin::Nth => true,
+        Builtin::Last => true,
+        Builtin::Count => true,
+        Builtin::IsEmpty => true,
+        Builtin::Cons => true,
+        Builtin::Conj => true,
+        Builtin::Vec => true,
+        Builtin::Reverse => true,
+        Builtin::Doall => true,
+        Builtin::IsEvery => true,
+        Builtin::Some => true,
+        Builtin::Apply => true,
+        Builtin::Equal => true,
+        Builtin::NotEqual => true,
+        Builtin::Reduce => true,
+        Builtin::Into => true,
+        _ => false,
+    }
+}
+
 /// The rule of a call of a word that walks. It takes no memory: the arguments are kept, and looked at at the first turn.
 pub fn begin_word(word: Builtin, args: PVec<Value>) -> RuleState
     requires walks { is_walk_word word ≡ true }
