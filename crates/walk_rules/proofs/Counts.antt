@@ -107,8 +107,14 @@ counts_one n c d r f e h = round count_from (M.int n ∷ stands c ∷ []) refl (
 pub sum_fits : (n : ℤ) (r : Next State) → int_le n greatest ≡ true → Takes (give (M.int n)) r → Takes (plan_of (count_ends n)) r
 sum_fits n r e h = rw e h
 
-pub sum_over : (n : ℤ) (r : Next State) → int_le n greatest ≡ false → Takes (throw Overflow) r → Takes (plan_of (count_ends n)) r
-sum_over n r e h = rw e h
+pub sum_over : (n m : ℤ) (r : Next State) → m ≡ n → int_le m greatest ≡ false → Takes (throw Overflow) r → Takes (plan_of (count_ends n)) r
+sum_over n m r e b h = same (ap (λ k. plan_of (count_ends k)) e) (over m r b h)
+  where
+    over : (m : ℤ) (r : Next State) → int_le m greatest ≡ false → Takes (throw Overflow) r → Takes (plan_of (count_ends m)) r
+    over m r b h = rw b h
+
+pub sum_same : (n m : ℤ) (r : Next State) → m ≡ n → Takes (plan_of (count_ends m)) r → Takes (plan_of (count_ends n)) r
+sum_same n m r e h = same (ap (λ k. plan_of (count_ends k)) e) h
 
 pub count_steps : (n m : ℤ) (c : Cursor) (rest : Rest) (r : Next State) → m ≡ n +ℤ pos 1 → int_le m greatest ≡ true → rested rest ≡ rest_of (stands c) → Takes (seq (rested rest) (λ s. left_seq (Q.Count m) s)) r → Takes (left_step (T.Count n c)) r
 count_steps n m c rest r e b f h =

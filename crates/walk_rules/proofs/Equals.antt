@@ -16,7 +16,7 @@ use Rattle.seq_turns.specs.declared.next.Next.{Next}
 use Rattle.seq_turns.specs.declared.proper.Proper.{Proper}
 use Rattle.seq_turns.specs.declared.places.Rest.{Rest}
 use Rattle.seq_turns.proofs.Taking.{some_cursor, takes_from}
-use Rattle.walk_rules.specs.Left.{left_seq, left_step, answers, args_left, compares, equals, goes_on, resolved, resolved_by, running, Takes}
+use Rattle.walk_rules.specs.Left.{left_seq, left_step, answers, args_left, compares, equals, goes_on, resolved, resolved_by, walking, Takes}
 use Rattle.walk_rules.specs.declared.state.AtStep.TheVariants as T
 use Rattle.walk_rules.specs.declared.state.Rests.{Rests}
 use Rattle.walk_rules.specs.declared.state.Pending.{Pending}
@@ -76,13 +76,13 @@ ends_unequal p r h = same (sym (by_false p.negated (args_left p.negated (plains 
 -- ## Rounds
 
 pub both_end : (p : Pending) (r : Next State) → Takes (resolved p (M.bool true)) r → Takes (compares M.nil M.nil (resolved p)) r
-both_end p r h = takes_from running (opens refl arrives) h
+both_end p r h = takes_from walking (opens refl arrives) h
 
 pub left_ends : (c : Cursor) (p : Pending) (r : Next State) → Takes (resolved p (M.bool false)) r → Takes (compares M.nil (stands c) (resolved p)) r
-left_ends c p r h = takes_from running (opens refl (rw (some_cursor c) arrives)) h
+left_ends c p r h = takes_from walking (opens refl (rw (some_cursor c) arrives)) h
 
 pub right_ends : (c : Cursor) (p : Pending) (r : Next State) → Takes (resolved p (M.bool false)) r → Takes (compares (stands c) M.nil (resolved p)) r
-right_ends c p r h = takes_from running (opens refl (rw (some_cursor c) arrives)) h
+right_ends c p r h = takes_from walking (opens refl (rw (some_cursor c) arrives)) h
 
 pub pair_goes : (c d : Cursor) (p q : Pending) (x y : Proper) (l m : Rest) (r : Next State) → plain x.value ≡ first_of (stands c) → plain y.value ≡ first_of (stands d) → rested l ≡ rest_of (stands c) → rested m ≡ rest_of (stands d) → q.rests.items ≡ p.rests.items ++ record { left = l; right = m } ∷ [] → q.args.items ≡ p.args.items → q.at ≡ p.at → q.negated ≡ p.negated → Takes (visit (left_step (T.Pair x y q))) r → Takes (compares (stands c) (stands d) (resolved p)) r
 pair_goes c d p q x y l m r ex ey el em er ea et en h =
@@ -94,4 +94,4 @@ pair_goes c d p q x y l m r ex ey el em er ea et en h =
     let one : visit (then (pair_on (plain x.value) (plain y.value)) (resolved q)) ≡ visit (then (pair_on (plain x.value) (plain y.value)) (λ b. then (k (rested l) (rested m) b) (resolved p))) = λ i. visit (then (pair_on (plain x.value) (plain y.value)) (waits i)) in
     let two : visit (then (pair_on (plain x.value) (plain y.value)) (λ b. then (k (rested l) (rested m) b) (resolved p))) ≡ visit (then (pair_on (first_of (stands c)) (first_of (stands d))) (λ b. then (k (rest_of (stands c)) (rest_of (stands d)) b) (resolved p))) = λ i. visit (then (pair_on (ex i) (ey i)) (λ b. then (k (el i) (em i) b) (resolved p))) in
     let three : visit (then (then (pair_on (first_of (stands c)) (first_of (stands d))) (k (rest_of (stands c)) (rest_of (stands d)))) (resolved p)) ≡ visit (then (pair_on (first_of (stands c)) (first_of (stands d))) (λ b. then (k (rest_of (stands c)) (rest_of (stands d)) b) (resolved p))) = ap visit (then_joins (pair_on (first_of (stands c)) (first_of (stands d))) (k (rest_of (stands c)) (rest_of (stands d))) (resolved p)) in
-    takes_from running (opens refl (rw (some_cursor c, some_cursor d) arrives)) (same (one ∙ two ∙ sym three) h)
+    takes_from walking (opens refl (rw (some_cursor c, some_cursor d) arrives)) (same (one ∙ two ∙ sym three) h)

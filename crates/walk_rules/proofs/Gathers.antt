@@ -19,7 +19,7 @@ use Rattle.seq_turns.specs.declared.places.Rest.{Rest}
 use Rattle.seq_turns.specs.Making.{Grows}
 use Rattle.seq_turns.specs.Seen.{rested}
 use Rattle.seq_turns.proofs.Taking.{some_cursor, takes_loop}
-use Rattle.walk_rules.specs.Left.{gathers, made_of, left_seq, left_step, running, Takes}
+use Rattle.walk_rules.specs.Left.{gathers, made_of, left_seq, left_step, walking, Takes}
 use Rattle.walk_rules.specs.Words.{is_vector}
 use Rattle.walk_rules.specs.declared.state.AtSeq.TheVariants as Q
 use Rattle.walk_rules.specs.declared.state.AtStep.TheVariants as T
@@ -99,9 +99,12 @@ apply_gathers args f c kept r b ef ec ek h =
 
 -- ## Rounds
 
+pub made_listed : (p : Purpose) (xs ys : List Value) (r : Next State) → ys ≡ xs → Takes (made_of p (plains ys)) r → Takes (made_of p (plains xs)) r
+made_listed p xs ys r e h = same (ap (λ zs. made_of p (plains zs)) e) h
+
 pub gather_ends : (kept : Gathered) (p : Purpose) (r : Next State) → Takes (made_of p (plains kept.items.items)) r → Takes (left_seq (Q.Gather kept p) M.nil) r
 gather_ends kept p r h =
-    takes_loop running gather_from (M.vector (M.values (plains kept.items.items)) ∷ M.nil ∷ []) (λ v. made_of p (members v)) refl
+    takes_loop walking gather_from (M.vector (M.values (plains kept.items.items)) ∷ M.nil ∷ []) (λ v. made_of p (members v)) refl
     (same (ap (made_of p) (sym (list_values (plains kept.items.items)))) h)
 
 then_cond : (b : Bool) (p q : Plan ℕ) (h : M.Value ℕ → Plan ℕ) → cond b (then p h) (then q h) ≡ then (cond b p q) h
@@ -114,7 +117,7 @@ then_members zs ys v h e = ap (λ xs. with_members xs (λ xs. seq v (λ t. go ga
 pub gather_goes : (kept : Gathered) (p : Purpose) (c : Cursor) (r : Next State) → Takes (visit (left_step (T.Gather kept p c))) r → Takes (left_seq (Q.Gather kept p) (stands c)) r
 gather_goes kept p c r h =
     let xs = plains kept.items.items in
-    takes_loop running gather_from (M.vector (M.values xs) ∷ stands c ∷ []) (λ v. made_of p (members v)) refl
+    takes_loop walking gather_from (M.vector (M.values xs) ∷ stands c ∷ []) (λ v. made_of p (members v)) refl
     (rw (some_cursor c) (same (ap visit (then_members (xs ++ first_of (stands c) ∷ []) (M.list (M.values xs) ++ first_of (stands c) ∷ []) (rest_of (stands c)) (λ v. made_of p (members v)) (ap (λ ys. ys ++ first_of (stands c) ∷ []) (sym (list_values xs))))) h))
 
 pub gather_steps : (kept all : Gathered) (p : Purpose) (c : Cursor) (x : Proper) (rest : Rest) (r : Next State) → plain x.value ≡ first_of (stands c) → rested rest ≡ rest_of (stands c) → Grows (with_members (plains kept.items.items ++ plain x.value ∷ [])) (G.All all) → Takes (seq (rested rest) (λ s. left_seq (Q.Gather all p) s)) r → Takes (left_step (T.Gather kept p c)) r

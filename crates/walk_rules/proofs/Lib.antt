@@ -1,4 +1,4 @@
-pub mod Arguments
+pub mod ByNumber
 pub mod Taking
 pub mod Onces
 pub mod Beginning

@@ -1,7 +1,8 @@
 -- Turns of `nth`.
-use Rattle.std.proofs.Common.{◌≡◌, ◌≢◌, ℕ, zero, suc, ◌+◌, ◌<◌, ℤ, pos, ◌-ℤ◌, ◌&&◌, true, false, int_le, int_lt, List, [], ◌∷◌, map, length, slice_get, Option, Some, None, refl, ap, sym, subst, ◌∙◌, arith}
+use Rattle.std.proofs.Common.{◌≡◌, ◌≢◌, ℕ, zero, suc, ◌+◌, ◌<◌, ◌≤◌, ℤ, pos, negsuc, ◌-ℤ◌, ◌&&◌, true, false, int_le, int_lt, List, [], ◌∷◌, map, length, drop, Option, Some, None, refl, ap, sym, subst, ◌∙◌, arith}
 use Rattle.std.specs.Prelude.{unsigned_abs}
 use Rattle.std.proofs.lemmas.List.{length-map}
+use Rattle.std.proofs.lemmas.Int.{ints}
 use Rattle.seq_base.specs.declared.thrown.Thrown.TheVariants.{Arity, BadType}
 use Rattle.seq_values.specs.Model as M
 use Rattle.seq_values.specs.Plain.{plain, plains}
@@ -143,11 +144,47 @@ in_another i d v p r e a h = same (ap (λ x. seq x (λ s. left_seq (Q.Place i d)
 
 -- ## A vector's place
 
-pub is_there : (i : ℤ) (d : Option Proper) (xs : List Value) (v : Proper) (r : Next State) → (int_le (pos 0) i && int_lt i (pos (length xs))) ≡ true → plain v.value ≡ value_at (plains xs) (unsigned_abs i) → Takes (give (plain v.value)) r → Takes (nth_of_vector i (default_of d) (plains xs)) r
-is_there i d xs v r t e h = rw (length-map plain xs, t) (same (ap give e) h)
+at_place : (xs : List Value) (n : ℕ) (v : Value) (rest : List Value) → drop n xs ≡ v ∷ rest → plain v ≡ value_at (plains xs) n
+at_place [] zero v rest e = absurd cc
+at_place [] (suc n) v rest e = absurd cc
+at_place (x ∷ xs) zero v rest e = let p : v ≡ x = cc in ap plain p
+at_place (x ∷ xs) (suc n) v rest e = at_place xs n v rest e
 
-pub is_nowhere : (i : ℤ) (d : Option Proper) (xs : List Value) (r : Next State) → (int_le (pos 0) i && int_lt i (pos (length xs))) ≡ false → Takes (plan_of (failing (default_of d))) r → Takes (nth_of_vector i (default_of d) (plains xs)) r
-is_nowhere i d xs r t h = rw (length-map plain xs, t) h
+within : (xs : List Value) (n : ℕ) (v : Value) (rest : List Value) → drop n xs ≡ v ∷ rest → n < length xs
+within [] zero v rest e = absurd cc
+within [] (suc n) v rest e = absurd cc
+within (x ∷ xs) zero v rest e = omega arith
+within (x ∷ xs) (suc n) v rest e = let h = within xs n v rest e in omega arith
+
+beyond : (xs : List Value) (n : ℕ) → drop n xs ≡ [] → length xs ≤ n
+beyond [] n e = omega arith
+beyond (x ∷ xs) zero e = absurd cc
+beyond (x ∷ xs) (suc n) e = let h = beyond xs n e in omega arith
+
+is_less : (n m : ℕ) → n < m → int_lt (pos n) (pos m) ≡ true
+is_less n m h = grind (arith, ints)
+
+not_less : (n m : ℕ) → m ≤ n → int_lt (pos n) (pos m) ≡ false
+not_less n m h = grind (arith, ints)
+
+module _ (d : Option Proper) (xs : List Value) (r : Next State) where
+  there : (n : ℕ) (v : Proper) → drop n xs ≡ v.value ∷ drop (n + 1) xs → Takes (give (plain v.value)) r → Takes (nth_of_vector (pos n) (default_of d) (plains xs)) r
+  there n v e h = rw (length-map plain xs, is_less n (length xs) (within xs n v.value (drop (n + 1) xs) e)) (same (ap give (at_place xs n v.value (drop (n + 1) xs) e)) h)
+
+  past : (n : ℕ) → drop n xs ≡ [] → Takes (plan_of (failing (default_of d))) r → Takes (nth_of_vector (pos n) (default_of d) (plains xs)) r
+  past n e h = rw (length-map plain xs, not_less n (length xs) (beyond xs n e)) h
+
+pub is_there : (i : ℤ) (d : Option Proper) (xs : List Value) (v : Proper) (r : Next State) → int_lt i (pos 0) ≡ false → drop (unsigned_abs i) xs ≡ v.value ∷ drop (unsigned_abs i + 1) xs → Takes (give (plain v.value)) r → Takes (nth_of_vector i (default_of d) (plains xs)) r
+is_there (pos n) d xs v r b e h = there d xs r n v e h
+is_there (negsuc n) d xs v r b e h = absurd cc
+
+pub is_beyond : (i : ℤ) (d : Option Proper) (xs : List Value) (r : Next State) → int_lt i (pos 0) ≡ false → drop (unsigned_abs i) xs ≡ [] → Takes (plan_of (failing (default_of d))) r → Takes (nth_of_vector i (default_of d) (plains xs)) r
+is_beyond (pos n) d xs r b e h = past d xs r n e h
+is_beyond (negsuc n) d xs r b e h = absurd cc
+
+pub is_below : (i : ℤ) (d : Option Proper) (xs : List Value) (r : Next State) → int_lt i (pos 0) ≡ true → Takes (plan_of (failing (default_of d))) r → Takes (nth_of_vector i (default_of d) (plains xs)) r
+is_below (pos n) d xs r b h = absurd cc
+is_below (negsuc n) d xs r b h = h
 
 -- ## Rounds
 

@@ -176,8 +176,8 @@ is_walk reduce_from = true
 is_walk _ = false
 
 -- how these words run
-abbrev pub running : Running State
-running = record { left = left; wait_of = wait_of; own = is_walk; rounds = walk_round }
+abbrev pub walking : Running State
+walking = record { left = left; wait_of = wait_of; own = is_walk; rounds = walk_round }
 
 abbrev pub Takes : Plan ℕ → Next State → Type 0
-Takes plan next = TakesBy running plan next
+Takes plan next = TakesBy walking plan next

@@ -15,7 +15,7 @@ pub(crate) enum TwoOrThree {
 }
 
 /// The argument at a place that is there.
-#[tactic(auto, using(crate::proofs::Arguments::not_at_end))]
+#[tactic(auto, using(crate::proofs::ByNumber::not_at_end))]
 pub(crate) fn argument(args: &ProperList, at: usize) -> Result<Proper, NoMemory>
     requires { at < length args.now.items }
     ensures { IfOk result (λ v. drop at args.now.items ≡ v.value ∷ drop (at + 1) args.now.items) }
@@ -27,7 +27,7 @@ pub(crate) fn argument(args: &ProperList, at: usize) -> Result<Proper, NoMemory>
 }
 
 /// The only argument, and `None` exactly where there is another number of them.
-#[tactic(auto, using(crate::proofs::Arguments::one_of))]
+#[tactic(auto, using(crate::proofs::ByNumber::one_of))]
 pub(crate) fn only(args: ProperList) -> Result<Option<Proper>, NoMemory>
     ensures { IfOk result (λ x. MatchOption x (length args.items ≢ 1) (λ v. plains args.items ≡ plain v.value ∷ [])) }
 {
@@ -39,7 +39,7 @@ pub(crate) fn only(args: ProperList) -> Result<Option<Proper>, NoMemory>
 }
 
 /// The only two arguments, and `None` exactly where there is another number of them.
-#[tactic(auto, using(crate::proofs::Arguments::two_of))]
+#[tactic(auto, using(crate::proofs::ByNumber::two_of))]
 pub(crate) fn pair(args: ProperList) -> Result<Option<(Proper, Proper)>, NoMemory>
     ensures { IfOk result (λ x. MatchOption x (length args.items ≢ 2) (λ p. plains args.items ≡ plain p.0.value ∷ plain p.1.value ∷ [])) }
 {
@@ -52,7 +52,7 @@ pub(crate) fn pair(args: ProperList) -> Result<Option<(Proper, Proper)>, NoMemor
 }
 
 /// The only three arguments.
-#[tactic(auto, using(crate::proofs::Arguments::three_of))]
+#[tactic(auto, using(crate::proofs::ByNumber::three_of))]
 fn three(args: ProperList) -> Result<TwoOrThree, NoMemory>
     requires { length args.items ≡ 3 }
     ensures { IfOk result (λ x. AreArguments x args.items) }

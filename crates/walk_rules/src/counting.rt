@@ -131,11 +131,11 @@ fn count_place(alloc: Global, count: i64, place: Cursor) -> Result<Next<State>, 
 }
 
 /// All that remains is added at once.
-#[tactic(auto, using(crate::proofs::Counts::sum_over))]
+#[tactic(auto, using(crate::proofs::Counts::sum_over, crate::proofs::Counts::sum_same))]
 fn gives_sum(count: i64, left: u64) -> Next<State>
     ensures { Takes (plan_of (count_ends (count +ℤ pos left))) result }
 {
-    let sum = i128::from(count) + i128::from(left);
+    let sum = count as i128 + left as i128;
     if sum > 9223372036854775807 {
         return fails(Thrown::Overflow);
     }

@@ -127,13 +127,21 @@ pub(crate) fn gather_at(
 }
 
 /// All elements are there.
+#[tactic(auto, using(crate::proofs::Gathers::made_listed))]
 fn gathered(alloc: Global, kept: Gathered, purpose: Purpose) -> Result<Next<State>, NoMemory>
     ensures { IfOk result (λ r. Takes (made_of purpose (plains kept.items.items)) r) }
 {
     let items = kept.listed(alloc)?;
+    let next = made(alloc, items, purpose)?;
+    Ok(next)
+}
+
+fn made(alloc: Global, items: ProperList, purpose: Purpose) -> Result<Next<State>, NoMemory>
+    ensures { IfOk result (λ r. Takes (made_of purpose (plains items.items)) r) }
+{
     match purpose {
         Purpose::Vector => Ok(ends_vector(items)),
-        Purpose::Reversed => Ok(ends_list(alloc, items)?),
+        Purpose::Reversed => ends_list(alloc, items),
         Purpose::Arguments { function } => Ok(asks_call(AtValue::Answer, function, items)),
     }
 }

@@ -1,12 +1,11 @@
 //! `nth`.
-ghost use Rattle.std.specs.Prelude.{◌≡◌, ℕ, ◌∷◌, ◌&&◌, true, false, pos, int_le, int_lt, unsigned_abs, length, IfOk, MatchOption};
+ghost use Rattle.std.specs.Prelude.{◌≡◌, ◌∷◌, IfOk};
 ghost use Rattle.lazy_rows.specs.Walks.{nth_call, nth_rule, nth_of_nil, nth_of_vector, failing};
 ghost use Rattle.seq_plan.specs.Cursors.{stands};
-ghost use Rattle.seq_plan.specs.Nodes.{first_of, value_at};
+ghost use Rattle.seq_plan.specs.Nodes.{first_of};
 ghost use Rattle.seq_plan.specs.Plan.{give, throw, plan_of};
 ghost use Rattle.seq_base.specs.declared.thrown.Thrown.TheVariants.{BadType};
 ghost use Rattle.seq_turns.specs.Seen.{seen};
-ghost use Rattle.seq_values.specs.Model as M;
 ghost use Rattle.seq_values.specs.Plain.{plain, plains};
 ghost use Rattle.walk_rules.specs.Left.{default_of, left_seq, left_step, Takes};
 ghost use Rattle.walk_rules.specs.declared.state.AtSeq.TheVariants as Q;
@@ -21,7 +20,7 @@ use crate::ways::{ends, ends_nil, fails, steps};
 use seq_base::Thrown;
 use seq_plan::Cursor;
 use seq_turns::{Next, Proper, ProperList, Seen, first_of_cursor, step_cursor};
-use seq_vector::{NoMemory, Share};
+use seq_vector::NoMemory;
 use std::alloc::Global;
 
 /// `nth`: a collection, a place, and a default or none.
@@ -97,31 +96,41 @@ fn nowhere(default: Option<Proper>) -> Next<State>
 }
 
 /// The item at a place of a vector.
-#[tactic(auto, using(crate::proofs::Places::is_there, crate::proofs::Places::is_nowhere))]
+#[tactic(auto, using(crate::proofs::Places::is_there, crate::proofs::Places::is_below, crate::proofs::Places::is_beyond))]
 fn nth_listed(listed: Listed, index: i64, default: Option<Proper>) -> Result<Next<State>, NoMemory>
     ensures { IfOk result (λ r. Takes (nth_of_vector index (default_of default) (plains listed.items)) r) }
 {
-    match item(listed, index)? {
-        Some(value) => Ok(found(value, default)),
-        None => Ok(nowhere(default)),
+    let items = items_of(listed);
+    if index < 0 {
+        return Ok(outside(items, default));
+    }
+    match items.get(index.unsigned_abs() as usize)? {
+        Some(value) => Ok(inside(items, value, default)),
+        None => Ok(outside(items, default)),
     }
 }
 
-/// The item at a place, and `None` exactly where the place is outside.
-#[tactic(auto, using(crate::proofs::Places::item_there, crate::proofs::Places::item_before, crate::proofs::Places::item_beyond, crate::proofs::Places::item_well))]
-fn item(listed: Listed, index: i64) -> Result<Option<Proper>, NoMemory>
-    ensures { IfOk result (λ x. MatchOption x ((int_le (pos 0) index && int_lt index (pos (length listed.items))) ≡ false) (λ v. ((int_le (pos 0) index && int_lt index (pos (length listed.items))) ≡ true) × (plain v.value ≡ value_at (plains listed.items) (unsigned_abs index)))) }
+#[tactic(auto, using(seq_values::proofs::WellFormedLemmas::vector_items))]
+fn items_of(listed: Listed) -> ProperList
+    ensures { result.items ≡ listed.items }
 {
-    if index < 0 {
-        return Ok(None);
+    ProperList {
+        items: listed.items,
     }
-    match listed.items.get(index as usize) {
-        Some(value) => {
-            let value = value.share()?;
-            Ok(Some(Proper { value }))
-        }
-        None => Ok(None),
-    }
+}
+
+/// The place is outside of the vector.
+fn outside(items: ProperList, default: Option<Proper>) -> Next<State>
+    ensures { Takes (plan_of (failing (default_of default))) result }
+{
+    nowhere(default)
+}
+
+/// The item is there.
+fn inside(items: ProperList, value: Proper, default: Option<Proper>) -> Next<State>
+    ensures { Takes (give (plain value.value)) result }
+{
+    ends(value)
 }
 
 /// The value is given, and the default isn't.

@@ -14,6 +14,7 @@ ghost use Rattle.walk_rules.specs.declared.state.AtValue.TheVariants as V;
 use crate::arguments::{TwoOrThree, pair, two_or_three};
 use crate::listed::Unwrapped;
 use crate::resuming::{resume, start};
+use crate::shapes::of_node;
 use crate::state::{AtSeq, AtStep, AtValue, State};
 use crate::ways::{asks_call, ends, fails, steps};
 use seq_base::Thrown;
@@ -141,13 +142,35 @@ fn reduced(value: Proper, function: Proper, rest: Rest) -> Next<State>
 }
 
 /// The value in a reduced one, or a value that isn't reduced.
-#[tactic(auto, using(seq_values::proofs::WellFormedLemmas::reduced_in))]
+#[tactic(auto, using(seq_values::proofs::WellFormedLemmas::reduced_in, seq_values::proofs::WellFormedLemmas::node_in))]
 fn unwrapped(answer: Proper) -> Result<Unwrapped, NoMemory>
     ensures { IfOk result (λ u. IsUnwrapped u (plain answer.value)) }
 {
     match answer.value {
         Value::Reduced { value, .. } => Ok(Unwrapped::Reduced(held(value)?)),
-        other => Ok(Unwrapped::Another(Proper { value: other })),
+        Value::Nil => Ok(Unwrapped::Another(Proper { value: Value::Nil })),
+        Value::Bool(truth) => Ok(Unwrapped::Another(Proper {
+            value: Value::Bool(truth),
+        })),
+        Value::Int(number) => Ok(Unwrapped::Another(Proper {
+            value: Value::Int(number),
+        })),
+        Value::Keyword(name) => Ok(Unwrapped::Another(Proper {
+            value: Value::Keyword(name),
+        })),
+        Value::Text(text) => Ok(Unwrapped::Another(Proper {
+            value: Value::Text(text),
+        })),
+        Value::Vector { depth, items } => Ok(Unwrapped::Another(Proper {
+            value: Value::Vector { depth, items },
+        })),
+        Value::Function(function) => Ok(Unwrapped::Another(Proper {
+            value: Value::Function(function),
+        })),
+        Value::Node(node) => Ok(Unwrapped::Another(of_node(node))),
+        Value::Cell(id) => Ok(Unwrapped::Another(Proper {
+            value: Value::Cell(id),
+        })),
     }
 }
 

@@ -7,7 +7,7 @@ ghost use Rattle.seq_plan.specs.Turns.{told};
 ghost use Rattle.seq_turns.specs.Turning.{Fits, IsSeq, TakesTurn};
 ghost use Rattle.seq_values.specs.Plain.{plain, plains};
 ghost use Rattle.seq_values.specs.WellFormed.{are_well_formed};
-ghost use Rattle.walk_rules.specs.Left.{left, left_once, left_seq, left_step, left_value, wait_of, running, Takes};
+ghost use Rattle.walk_rules.specs.Left.{left, left_once, left_seq, left_step, left_value, wait_of, walking, Takes};
 ghost use Rattle.walk_rules.specs.Words.{is_walk_word};
 
 use crate::arguments::only;
@@ -211,7 +211,7 @@ fn next(alloc: Global, state: State, answer: Answer) -> Result<Next<State>, NoMe
 /// The next turn, and where the rule stands then. The answer has to fit the last turn, and `Begin` comes first. It throws exactly what the row of the word throws; want of memory is the only `Err`, and drops the rule.
 pub fn turn(alloc: Global, state: RuleState, answer: Answer) -> Result<(RuleState, Turn), NoMemory>
     requires { Fits (wait_of state.state) answer }
-    ensures { IfOk result (λ r. TakesTurn running (left state.state (told answer)) r.0.state r.1) }
+    ensures { IfOk result (λ r. TakesTurn walking (left state.state (told answer)) r.0.state r.1) }
 {
     let Next { state, turn } = next(alloc, state.state, answer)?;
     Ok((RuleState { state }, turn))

@@ -4,13 +4,13 @@ use Rattle.seq_plan.specs.Cursors.{stands}
 use Rattle.seq_plan.specs.Nodes.{rest_of}
 use Rattle.seq_turns.specs.Seen.{seen, rested}
 use Rattle.seq_turns.proofs.Taking.{in_ok}
-use Rattle.walk_rules.specs.Left.{left_once, running}
+use Rattle.walk_rules.specs.Left.{left_once, walking}
 use Rattle.walk_rules.specs.declared.state.Once.TheVariants as O
 use Rattle.walk_rules.proofs.Taking.{found_same, same}
 use Rattle.walk_rules.proofs.once.asks_second.Goals as goal
 
 pub returns-in-Now : goal.returns-in-Now
-returns-in-Now c = in_ok running c.first_at.result (λ n h. found_same (rest_of (stands c.args.place)) (seen c.in-Now.what) (rested c.in_ok-rest.rest) (left_once O.First) n c.in_ok-rest.ensures (rw c.in-Now.is at c.seek_rest.ensures) h) c.first_at.ensures
+returns-in-Now c = in_ok walking c.first_at.result (λ n h. found_same (rest_of (stands c.args.place)) (seen c.in-Now.what) (rested c.in_ok-rest.rest) (left_once O.First) n c.in_ok-rest.ensures (rw c.in-Now.is at c.seek_rest.ensures) h) c.first_at.ensures
 
 pub returns-in-Ask : goal.returns-in-Ask
 returns-in-Ask c =
