@@ -1,6 +1,5 @@
 -- What goes on with a value that was made, and where it would be too deep or have too many members.
-use Rattle.std.proofs.Common.{◌≡◌, ℕ, zero, suc, ◌+◌, ◌<◌, ◌≤◌, max, nat_le, ℤ, Bool, true, false, List, [], ◌∷◌, ◌++◌, map, reverse, length, refl, ap, sym, subst, ◌∙◌, arith, rules}
-use Rattle.std.specs.Prelude.{IsTrue}
+use Rattle.std.proofs.Common.{◌≡◌, ℕ, suc, ◌+◌, ◌<◌, ◌≤◌, max, nat_le, ℤ, Bool, true, false, List, [], ◌∷◌, ◌++◌, reverse, length, refl, ap, sym, subst, ◌∙◌, arith, rules}
 use Rattle.std.proofs.lemmas.List.{length-map, length-append, length-reverse, reverse-append, reverse-reverse, map-append}
 use Rattle.seq_base.specs.declared.thrown.Thrown.{Thrown}
 use Rattle.seq_base.specs.declared.thrown.Thrown.TheVariants as E
@@ -17,7 +16,7 @@ use Rattle.seq_values.specs.declared.words.Target.{Target}
 use Rattle.seq_values.proofs.WellFormedLemmas.{within}
 use Rattle.seq_values.proofs.PartLemmas.{deepest_joined}
 use Rattle.seq_plan.specs.Plan.{Plan, throw}
-use Rattle.seq_plan.specs.Nodes.{longest, deepest, depth, depths, with_value, with_members, with_items}
+use Rattle.seq_plan.specs.Nodes.{longest, depth, depths, with_value, with_members, with_items}
 use Rattle.seq_plan.specs.Lists.{list_of, put_before, with_first}
 use Rattle.seq_plan.proofs.Depths.{depth_agrees}
 use Rattle.seq_plan.proofs.CursorLemmas.{plain_cons, plain_chunk, plain_vec_seq, plain_empty, list_values}

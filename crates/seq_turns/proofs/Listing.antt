@@ -1,8 +1,7 @@
 -- Lists of well-formed values.
-use Rattle.std.proofs.Common.{◌≡◌, ℕ, zero, suc, ◌+◌, ◌<◌, ◌≤◌, nat_le, Bool, true, false, List, [], ◌∷◌, ◌++◌, map, length, drop, reverse, slice_get, Some, None, ◌&&◌, refl, ap, sym, subst, ◌∙◌, rules, arith, length-append}
+use Rattle.std.proofs.Common.{◌≡◌, ℕ, zero, suc, ◌+◌, ◌<◌, ◌≤◌, nat_le, true, false, List, [], ◌∷◌, ◌++◌, map, length, drop, reverse, slice_get, Some, None, refl, ap, sym, subst, ◌∙◌, rules, arith, length-append}
 use Rattle.std.specs.Prelude.{IsTrue}
 use Rattle.std.proofs.lemmas.List.{length-map, map-append, length-reverse, reverse-append}
-use Rattle.seq_base.specs.declared.thrown.Thrown.TheVariants.{Overflow}
 use Rattle.seq_values.specs.Model as M
 use Rattle.seq_values.specs.Plain.{plain, plains}
 use Rattle.seq_values.specs.WellFormed.{is_well_formed, are_well_formed, sight_of}
@@ -11,10 +10,8 @@ use Rattle.seq_values.specs.declared.words.Op.{Op}
 use Rattle.seq_values.specs.declared.value.Value.{Value}
 use Rattle.seq_values.proofs.DepthLemmas.{and_parts, both}
 use Rattle.seq_values.proofs.WellFormedLemmas.{one_well, well_joined, member_well}
-use Rattle.seq_plan.specs.Plan.{Plan, throw}
 use Rattle.seq_plan.specs.Nodes.{with_members, longest}
 use Rattle.seq_turns.specs.Making.{Grows}
-use Rattle.seq_turns.specs.declared.made.Grown.{Grown}
 use Rattle.seq_turns.specs.declared.made.Grown.TheVariants as G
 use Rattle.seq_turns.specs.declared.proper.Gathered.{Gathered}
 

@@ -1,5 +1,5 @@
 -- What `seq` finds of a node and of a vector.
-use Rattle.std.proofs.Common.{◌≡◌, ℕ, ◌+◌, ◌<◌, ℤ, List, [], ◌∷◌, length, true, refl, ap, sym, ◌∙◌, rules, arith}
+use Rattle.std.proofs.Common.{◌≡◌, ℕ, ◌<◌, ℤ, List, [], ◌∷◌, length, true, refl, ap, rules, arith}
 use Rattle.std.specs.Prelude.{IsTrue, int_lt, cond}
 use Rattle.seq_values.specs.Model as M
 use Rattle.seq_values.specs.Model.{◌&◌}
@@ -10,7 +10,7 @@ use Rattle.seq_values.specs.declared.value.Value.TheVariants as V
 use Rattle.seq_values.specs.declared.value.Node.TheVariants as N
 use Rattle.seq_values.specs.declared.value.Node.TheFolds.{the_lemmas}
 use Rattle.seq_values.proofs.WellFormedLemmas.{cons_holds, chunk_holds, vec_seq_holds, range_ends}
-use Rattle.seq_plan.specs.Cursors.{own, vector_stand}
+use Rattle.seq_plan.specs.Cursors.{own}
 use Rattle.seq_plan.specs.Nodes.{now, found}
 use Rattle.seq_plan.proofs.CursorLemmas.{own_cons, own_chunk, own_vec_seq, plain_cons, plain_chunk, plain_vec_seq}
 

@@ -1,12 +1,11 @@
 -- What a cursor stands for is well formed.
-use Rattle.std.proofs.Common.{◌≡◌, ℕ, ◌+◌, max, true, List, refl, ap, sym, subst, take, drop}
+use Rattle.std.proofs.Common.{◌≡◌, ℕ, ◌+◌, max, refl, subst, take, drop}
 use Rattle.std.specs.Prelude.{IsTrue}
 use Rattle.seq_values.specs.Model as M
-use Rattle.seq_values.specs.Plain.{plain, plains}
+use Rattle.seq_values.specs.Plain.{plain}
 use Rattle.seq_values.specs.declared.value.Node.{Node}
 use Rattle.seq_values.specs.Depth.{depth, depth_of_all}
 use Rattle.seq_values.specs.WellFormed.{is_well_formed_node}
-use Rattle.seq_values.specs.declared.value.Value.{Value}
 use Rattle.seq_values.specs.declared.value.Value.TheVariants as V
 use Rattle.seq_values.specs.declared.value.Node.TheVariants as N
 use Rattle.seq_values.proofs.WellFormedLemmas.{node_well, range_well}

@@ -9,7 +9,7 @@ use Rattle.seq_plan.specs.declared.cursor.Cursor.{Cursor}
 use Rattle.seq_plan.specs.declared.cursor.Cursor.TheVariants as C
 use Rattle.seq_plan.proofs.Thens.{then_gives}
 use Rattle.seq_turns.specs.Making.{made, Makes}
-use Rattle.seq_turns.specs.Turning.{Silent, arrives, opens, finds, Running, TakesTurn, Takes}
+use Rattle.seq_turns.specs.Turning.{Silent, arrives, opens, finds, Running, Takes}
 use Rattle.seq_turns.specs.declared.made.Made.{Made}
 use Rattle.seq_turns.specs.declared.next.Next.{Next}
 

@@ -110,13 +110,7 @@ fn rest_of_range(from: i64, at: i64, count: u32, end: i64) -> Proper
 }
 
 #[tactic(auto, using(seq_values::proofs::WellFormedLemmas::range_begun, seq_values::proofs::WellFormedLemmas::range_ends))]
-fn chunk_of_range(
-    alloc: Global,
-    from: i64,
-    at: i64,
-    end: i64,
-    size: u32,
-) -> Result<Chunk, NoMemory>
+fn chunk_of_range(alloc: Global, from: i64, at: i64, end: i64, size: u32) -> Result<Chunk, NoMemory>
     requires well { IsTrue (is_well_formed_node (N.Range from at end)) }
     requires some { 0 < size }
     ensures { IfOk result (λ c. Some (plains c.items.items, plain c.rest.value) ≡ chunk_of size (plain (V.Node (N.Range from at end)))) }

@@ -173,12 +173,7 @@ fn too_deep_with(items: PVec<Value>, more: Value) -> Made
 }
 
 /// The items with one more.
-fn appended(
-    alloc: Global,
-    items: PVec<Value>,
-    depth: u32,
-    last: Value,
-) -> Result<Value, NoMemory>
+fn appended(alloc: Global, items: PVec<Value>, depth: u32, last: Value) -> Result<Value, NoMemory>
     requires vector { IsTrue (is_well_formed (V.Vector depth items)) }
     requires few { length items < 4294967295 }
     requires last { IsTrue (is_well_formed last) }
@@ -191,7 +186,12 @@ fn appended(
 
 /// A vector with one more item, the last.
 #[tactic(auto, using(crate::proofs::Limits::more_goes, crate::proofs::Limits::more_deep, crate::proofs::Limits::more_many, seq_values::proofs::WellFormedLemmas::value_keeps))]
-pub fn one_more(alloc: Global, depth: u32, items: PVec<Value>, last: Proper) -> Result<Made, NoMemory>
+pub fn one_more(
+    alloc: Global,
+    depth: u32,
+    items: PVec<Value>,
+    last: Proper,
+) -> Result<Made, NoMemory>
     requires { IsTrue (is_well_formed (V.Vector depth items)) }
     ensures { IfOk result (λ m. Makes (λ k. with_members (plains items ++ plain last.value ∷ []) (λ ys. with_value (M.vector (M.values ys)) k)) m) }
 {

@@ -35,12 +35,7 @@ pub fn term_with_one(alloc: Global, op: Op, only: Proper) -> Result<Term, NoMemo
 
 /// A term of two arguments.
 #[tactic(auto, using(crate::proofs::Listing::takes_same, crate::proofs::Listing::term_same))]
-pub fn term_with_two(
-    alloc: Global,
-    op: Op,
-    first: Proper,
-    second: Proper,
-) -> Result<Term, NoMemory>
+pub fn term_with_two(alloc: Global, op: Op, first: Proper, second: Proper) -> Result<Term, NoMemory>
     requires { IsTrue (takes op (sight_of first.value ∷ sight_of second.value ∷ [])) }
     ensures stands { IfOk result (λ t. plain_term t ≡ record { op = op; args = plain first.value ∷ plain second.value ∷ [] }) }
     ensures well { IfOk result (λ t. IsTrue (is_well_formed_term t)) }

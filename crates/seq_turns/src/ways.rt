@@ -105,7 +105,12 @@ pub fn gives_truth<S: Rule>(over: S, holds: bool) -> Next<S>
     requires { S.running.wait_of over ≡ nothing }
     ensures { Takes S.running (give (M.bool holds)) result }
 {
-    gives(over, Proper { value: Value::Bool(holds) })
+    gives(
+        over,
+        Proper {
+            value: Value::Bool(holds),
+        },
+    )
 }
 
 /// Ends with an error.

@@ -122,8 +122,8 @@ gather_goes kept p c r h =
 
 pub gather_steps : (kept all : Gathered) (p : Purpose) (c : Cursor) (x : Proper) (rest : Rest) (r : Next State) → plain x.value ≡ first_of (stands c) → rested rest ≡ rest_of (stands c) → Grows (with_members (plains kept.items.items ++ plain x.value ∷ [])) (G.All all) → Takes (seq (rested rest) (λ s. left_seq (Q.Gather all p) s)) r → Takes (left_step (T.Gather kept p c)) r
 gather_steps kept all p c x rest r e f g h =
-    same (sym (g (λ ys. seq (rested rest) (λ t. gathers p ys t))) ∙ (λ i. with_members (plains kept.items.items ++ e i ∷ []) (λ ys. seq (f i) (λ t. gathers p ys t)))) h
+    same (sym (g.goes (λ ys. seq (rested rest) (λ t. gathers p ys t))) ∙ (λ i. with_members (plains kept.items.items ++ e i ∷ []) (λ ys. seq (f i) (λ t. gathers p ys t)))) h
 
 pub gather_full : (kept : Gathered) (p : Purpose) (c : Cursor) (x : Proper) (r : Next State) → plain x.value ≡ first_of (stands c) → Grows (with_members (plains kept.items.items ++ plain x.value ∷ [])) G.TooMany → Takes (throw Overflow) r → Takes (left_step (T.Gather kept p c)) r
 gather_full kept p c x r e g h =
-    same (sym (g (λ ys. seq (rest_of (stands c)) (λ t. gathers p ys t))) ∙ (λ i. with_members (plains kept.items.items ++ e i ∷ []) (λ ys. seq (rest_of (stands c)) (λ t. gathers p ys t)))) h
+    same (sym (g.goes (λ ys. seq (rest_of (stands c)) (λ t. gathers p ys t))) ∙ (λ i. with_members (plains kept.items.items ++ e i ∷ []) (λ ys. seq (rest_of (stands c)) (λ t. gathers p ys t)))) h

@@ -25,7 +25,7 @@ use Rattle.walk_rules.proofs.Taking.{same}
 -- ## `cons`
 
 pub cons_two : (args : List Value) (x c : Proper) (m : Made) (r : Next State) → plains args ≡ plain x.value ∷ plain c.value ∷ [] → Makes (with_first (plain x.value) (plain c.value)) m → Takes (made m give) r → Takes (cons_call (plains args)) r
-cons_two args x c m r e g h = same (sym (g give) ∙ ap cons_call (sym e)) h
+cons_two args x c m r e g h = same (sym (g.goes give) ∙ ap cons_call (sym e)) h
 
 pub cons_others : (args : List Value) (r : Next State) → length args ≢ 2 → Takes (throw Arity) r → Takes (cons_call (plains args)) r
 cons_others [] r n h = h
@@ -94,15 +94,15 @@ pub conj_seen : (args : ProperList) (s : M.Value ℕ) (v : Proper) (r : Next Sta
 conj_seen args s v r e h = same (ap (λ x. conj_each x (plains (drop 1 args.items))) e) h
 
 pub empty_made : (items : List Value) (m : Made) (r : Next State) → items ≡ [] → Makes (with_value (M.vector (M.values (plains items)))) m → Takes (made m give) r → Takes (give (M.vector M.no_values)) r
-empty_made items m r e g h = same (sym (g give) ∙ ap (λ xs. with_value (M.vector (M.values (plains xs))) give) e) h
+empty_made items m r e g h = same (sym (g.goes give) ∙ ap (λ xs. with_value (M.vector (M.values (plains xs))) give) e) h
 
 -- ## One more
 
 pub one_into_nil : (v : M.Value ℕ) (x n : Proper) (m : Made) → v ≡ M.nil → plain n.value ≡ M.nil → Makes (with_first (plain x.value) (plain n.value)) m → Makes (with_one_more v (plain x.value)) m
-one_into_nil v x n m e f g = λ k. ap (λ w. with_one_more w (plain x.value) k) e ∙ ap (λ w. with_first (plain x.value) w k) (sym f) ∙ g k
+one_into_nil v x n m e f g = record { goes = λ k. ap (λ w. with_one_more w (plain x.value) k) e ∙ ap (λ w. with_first (plain x.value) w k) (sym f) ∙ g.goes k }
 
 pub one_into_vector : (v : M.Value ℕ) (xs : List Value) (x : Proper) (m : Made) → v ≡ M.vector (M.values (plains xs)) → Makes (λ k. with_members (plains xs ++ plain x.value ∷ []) (λ ys. with_value (M.vector (M.values ys)) k)) m → Makes (with_one_more v (plain x.value)) m
-one_into_vector v xs x m e g = λ k. ap (λ w. with_one_more w (plain x.value) k) e ∙ ap (λ ys. with_members (ys ++ plain x.value ∷ []) (λ zs. with_value (M.vector (M.values zs)) k)) (list_values (plains xs)) ∙ g k
+one_into_vector v xs x m e g = record { goes = λ k. ap (λ w. with_one_more w (plain x.value) k) e ∙ ap (λ ys. with_members (ys ++ plain x.value ∷ []) (λ zs. with_value (M.vector (M.values zs)) k)) (list_values (plains xs)) ∙ g.goes k }
 
 by_first : (v x : M.Value ℕ) (k : M.Value ℕ → Plan ℕ) → is_another v ≡ true → with_one_more v x k ≡ with_first x v k
 by_first M.nil x k e = absurd cc
@@ -121,15 +121,15 @@ by_first (M.range from at end) x k e = refl
 by_first (M.vec_seq ys at) x k e = refl
 
 pub one_into_another : (v : M.Value ℕ) (p x : Proper) (m : Made) → plain p.value ≡ v → is_another v ≡ true → Makes (with_first (plain x.value) (plain p.value)) m → Makes (with_one_more v (plain x.value)) m
-one_into_another v p x m e a g = λ k. by_first v (plain x.value) k a ∙ ap (λ w. with_first (plain x.value) w k) (sym e) ∙ g k
+one_into_another v p x m e a g = record { goes = λ k. by_first v (plain x.value) k a ∙ ap (λ w. with_first (plain x.value) w k) (sym e) ∙ g.goes k }
 
 -- ## One after the other
 
 pub goes_in : (w x : Proper) (v : Proper) (rest all : List Value) → all ≡ x.value ∷ rest → Makes (with_one_more (plain w.value) (plain x.value)) (D.Value v) → conj_each (plain v.value) (plains rest) ≡ conj_each (plain w.value) (plains all)
-goes_in w x v rest all e g = sym (g (λ d. conj_each d (plains rest))) ∙ ap (λ ys. conj_each (plain w.value) (plains ys)) (sym e)
+goes_in w x v rest all e g = sym (g.goes (λ d. conj_each d (plains rest))) ∙ ap (λ ys. conj_each (plain w.value) (plains ys)) (sym e)
 
 pub fails_in : (w x : Proper) (why : Thrown) (rest all : List Value) → all ≡ x.value ∷ rest → Makes (with_one_more (plain w.value) (plain x.value)) (D.Thrown why) → throw why ≡ conj_each (plain w.value) (plains all)
-fails_in w x why rest all e g = sym (g (λ d. conj_each d (plains rest))) ∙ ap (λ ys. conj_each (plain w.value) (plains ys)) (sym e)
+fails_in w x why rest all e g = sym (g.goes (λ d. conj_each d (plains rest))) ∙ ap (λ ys. conj_each (plain w.value) (plains ys)) (sym e)
 
 pub none_in : (w : Proper) (all : List Value) → all ≡ [] → give (plain w.value) ≡ conj_each (plain w.value) (plains all)
 none_in w all e = ap (λ ys. conj_each (plain w.value) (plains ys)) (sym e)

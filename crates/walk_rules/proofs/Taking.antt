@@ -28,4 +28,4 @@ pub gives_same : (m : M.Value ℕ) (v : Proper) (r : Next State) → plain v.val
 gives_same m v r e h = same (ap give e) h
 
 pub made_gives : (plan : (M.Value ℕ → Plan ℕ) → Plan ℕ) (m : Made) (r : Next State) → Makes plan m → Takes (made m give) r → Takes (plan give) r
-made_gives plan m r e h = same (sym (e give)) h
+made_gives plan m r e h = same (sym (e.goes give)) h

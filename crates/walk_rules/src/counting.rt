@@ -165,15 +165,15 @@ fn range_counted(alloc: Global, range: RangeLeft) -> Result<Counted, NoMemory>
     ensures { IfOk result (λ c. IsCounted c (stands (C.Range range))) }
 {
     let node = cursor_value(alloc, Cursor::Range(range))?;
-    Ok(Counted::Whole(left_in_range(node)))
+    Ok(Counted::Whole(left_in_range(node.value)))
 }
 
 /// How many integers are left of a range.
-fn left_in_range(node: Proper) -> u64
-    requires { IsSome (range_left (plain node.value)) }
-    ensures { range_left (plain node.value) ≡ Some (pos result) }
+fn left_in_range(node: Value) -> u64
+    requires { IsSome (range_left (plain node)) }
+    ensures { range_left (plain node) ≡ Some (pos result) }
 {
-    match node.value {
+    match node {
         Value::Node(Node::Range { from: _, at, end }) => end.abs_diff(at),
         _ => unreachable!(),
     }
@@ -183,15 +183,15 @@ fn vector_counted(alloc: Global, vector: VecLeft) -> Result<Counted, NoMemory>
     ensures { IfOk result (λ c. IsCounted c (stands (C.Vector vector))) }
 {
     let node = cursor_value(alloc, Cursor::Vector(vector))?;
-    Ok(Counted::Whole(left_in_vector(node)))
+    Ok(Counted::Whole(left_in_vector(node.value)))
 }
 
 /// How many items are left of a vector's seq.
-fn left_in_vector(node: Proper) -> u64
-    requires { IsSome (vector_left (plain node.value)) }
-    ensures { vector_left (plain node.value) ≡ Some (pos result) }
+fn left_in_vector(node: Value) -> u64
+    requires { IsSome (vector_left (plain node)) }
+    ensures { vector_left (plain node) ≡ Some (pos result) }
 {
-    match node.value {
+    match node {
         Value::Node(Node::VecSeq { items, at, .. }) => items
             .len()
             .saturating_sub(at as usize) as u64,

@@ -1,5 +1,5 @@
 //! `seq`, `first`, `second`, `rest`, `next` and `empty?`: the words that take one seq.
-ghost use Rattle.std.specs.Prelude.{◌≡◌, IfOk};
+ghost use Rattle.std.specs.Prelude.{◌≡◌, false, IfOk};
 ghost use Rattle.lazy_rows.specs.Walks.{first_rule};
 ghost use Rattle.seq_plan.specs.Arguments.{of_value};
 ghost use Rattle.seq_plan.specs.Cursors.{stands};

@@ -129,7 +129,7 @@ pub(crate) fn reduce_answer(
 ) -> Result<Next<State>, NoMemory>
     ensures { IfOk result (λ r. Takes (left_value (V.Reduce function rest) (plain answer.value)) r) }
 {
-    match unwrapped(answer)? {
+    match unwrapped(answer.value)? {
         Unwrapped::Reduced(value) => Ok(reduced(value, function, rest)),
         Unwrapped::Another(answer) => Ok(resume(alloc, AtSeq::Reduce { function, answer }, rest)?),
     }
@@ -143,10 +143,11 @@ fn reduced(value: Proper, function: Proper, rest: Rest) -> Next<State>
 
 /// The value in a reduced one, or a value that isn't reduced.
 #[tactic(auto, using(seq_values::proofs::WellFormedLemmas::reduced_in, seq_values::proofs::WellFormedLemmas::node_in))]
-fn unwrapped(answer: Proper) -> Result<Unwrapped, NoMemory>
-    ensures { IfOk result (λ u. IsUnwrapped u (plain answer.value)) }
+fn unwrapped(answer: Value) -> Result<Unwrapped, NoMemory>
+    requires { IsTrue (is_well_formed answer) }
+    ensures { IfOk result (λ u. IsUnwrapped u (plain answer)) }
 {
-    match answer.value {
+    match answer {
         Value::Reduced { value, .. } => Ok(Unwrapped::Reduced(held(value)?)),
         Value::Nil => Ok(Unwrapped::Another(Proper { value: Value::Nil })),
         Value::Bool(truth) => Ok(Unwrapped::Another(Proper {

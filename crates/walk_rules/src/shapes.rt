@@ -2,7 +2,7 @@
 ghost use Rattle.std.specs.Prelude.{◌≡◌, true, false, IsTrue};
 ghost use Rattle.seq_plan.specs.Nodes.{is_truthy as truthy};
 ghost use Rattle.seq_values.specs.Plain.{plain};
-ghost use Rattle.seq_values.specs.WellFormed.{is_well_formed_node};
+ghost use Rattle.seq_values.specs.WellFormed.{is_well_formed, is_well_formed_node};
 ghost use Rattle.seq_values.specs.declared.value.Value.TheVariants as V;
 ghost use Rattle.walk_rules.specs.Words.{number, is_another, is_reduced, is_vector as vector, is_cell as cell};
 ghost use Rattle.walk_rules.specs.Shapes.{IsShape};
@@ -12,11 +12,18 @@ use seq_turns::Proper;
 use seq_values::{Node, Value};
 
 /// The kind of a value.
-#[tactic(auto, using(seq_values::proofs::WellFormedLemmas::node_in))]
 pub(crate) fn shape(value: Proper) -> Shape
     ensures { IsShape result (plain value.value) }
 {
-    match value.value {
+    shape_of(value.value)
+}
+
+#[tactic(auto, using(seq_values::proofs::WellFormedLemmas::node_in))]
+fn shape_of(value: Value) -> Shape
+    requires { IsTrue (is_well_formed value) }
+    ensures { IsShape result (plain value) }
+{
+    match value {
         Value::Nil => Shape::Nil,
         Value::Vector { depth, items } => Shape::Vector(Listed { depth, items }),
         Value::Bool(truth) => Shape::Another(Proper {

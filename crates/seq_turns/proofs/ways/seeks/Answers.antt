@@ -1,4 +1,3 @@
-use Rattle.std.proofs.Common.{refl}
 use Rattle.seq_turns.specs.Turning.{arrives}
 use Rattle.seq_turns.proofs.ways.seeks.Goals as goal
 
