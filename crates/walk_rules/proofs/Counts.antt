@@ -1,14 +1,20 @@
 -- Turns of `last` and `count`.
-use Rattle.std.proofs.Common.{◌≡◌, ℕ, ◌-◌, ◌<◌, ◌≤◌, ℤ, pos, ◌+ℤ◌, ◌-ℤ◌, true, false, int_le, int_lt, List, [], ◌∷◌, length, Option, Some, None, refl, ap, sym, ◌∙◌, arith}
+use Rattle.std.proofs.Common.{◌≡◌, ℕ, ◌-◌, ◌<◌, ◌≤◌, ℤ, pos, ◌+ℤ◌, ◌-ℤ◌, unsigned_abs, true, false, int_le, int_lt, List, [], ◌∷◌, length, Option, Some, None, refl, ap, sym, ◌∙◌, arith, rules}
+use Rattle.std.proofs.lemmas.Int.{ints}
 use Rattle.seq_base.specs.declared.thrown.Thrown.TheVariants.{Overflow}
 use Rattle.seq_values.specs.Model as M
 use Rattle.seq_values.specs.Plain.{plain, plains}
 use Rattle.seq_values.specs.declared.value.Value.{Value}
+use Rattle.seq_values.specs.declared.value.Value.TheVariants as V
+use Rattle.seq_values.specs.declared.value.Node.TheVariants as N
+use Rattle.seq_values.specs.declared.value.Node.TheFolds.{the_lemmas}
+use Rattle.seq_values.specs.WellFormed.{is_well_formed}
+use Rattle.seq_values.proofs.WellFormedLemmas.{node_in, range_ends}
 use Rattle.seq_plan.specs.Plan.{Plan, visit, seq, go, give, throw, plan_of, last_from, count_from}
 use Rattle.seq_plan.specs.Nodes.{first_of, rest_of, is_nil}
 use Rattle.seq_plan.specs.Cursors.{stands}
 use Rattle.seq_plan.specs.declared.cursor.Cursor.{Cursor}
-use Rattle.seq_plan.proofs.CursorLemmas.{length_values}
+use Rattle.seq_plan.proofs.CursorLemmas.{length_values, plain_vec_seq}
 use Rattle.lazy_rows.specs.Walks.{last_rule, count_rule, count_ends, count_on, count_goes_on, greatest}
 use Rattle.seq_turns.specs.declared.next.Next.{Next}
 use Rattle.seq_turns.specs.declared.proper.Proper.{Proper}
@@ -16,7 +22,7 @@ use Rattle.seq_turns.specs.declared.places.Rest.{Rest}
 use Rattle.seq_turns.specs.Seen.{rested}
 use Rattle.seq_turns.proofs.Taking.{some_cursor}
 use Rattle.walk_rules.specs.Left.{left_seq, left_step, Takes}
-use Rattle.walk_rules.specs.Words.{is_another, left_at_once}
+use Rattle.walk_rules.specs.Words.{is_another, left_at_once, range_left, vector_left}
 use Rattle.walk_rules.specs.declared.state.AtSeq.TheVariants as Q
 use Rattle.walk_rules.specs.declared.state.AtStep.TheVariants as T
 use Rattle.walk_rules.specs.declared.state.State.{State}
@@ -81,6 +87,20 @@ whole n (M.cons xs r) m e = absurd cc
 whole n (M.chunk xs r) m e = absurd cc
 whole n (M.range from at end) m e = let p : m ≡ end -ℤ at = cc in ap (λ k. count_ends (n +ℤ k)) p
 whole n (M.vec_seq xs at) m e = let p : m ≡ pos (length (M.list xs) - at) = cc in ap (λ k. count_ends (n +ℤ k)) p
+
+plain_range : (from at end : ℤ) → plain (V.Node (N.Range from at end)) ≡ M.range from at end
+plain_range from at end = search (rules, the_lemmas)
+
+apart : (at end : ℤ) (k : ℕ) → int_lt at end ≡ true → k ≡ unsigned_abs (end -ℤ at) → end -ℤ at ≡ pos k
+apart at end k b e = grind (arith, ints)
+
+pub range_counts : (node : Value) (from at end : ℤ) (k : ℕ) → node ≡ V.Node (N.Range from at end) → is_well_formed node ≡ true → k ≡ unsigned_abs (end -ℤ at) → range_left (plain node) ≡ Some (pos k)
+range_counts node from at end k is well e =
+    ap (λ v. range_left (plain v)) is ∙ ap range_left (plain_range from at end) ∙ ap Some (apart at end k (range_ends from at end (node_in node (N.Range from at end) is well)) e)
+
+pub vector_counts : (node : Value) (kept : ℕ) (items : List Value) (at k : ℕ) → node ≡ V.Node (N.VecSeq kept items at) → k ≡ length items - at → vector_left (plain node) ≡ Some (pos k)
+vector_counts node kept items at k is e =
+    ap (λ v. vector_left (plain v)) is ∙ ap vector_left (plain_vec_seq kept items at) ∙ ap (λ n. Some (pos (n - at))) (length_values items) ∙ ap (λ n. Some (pos n)) (sym e)
 
 pub counts_whole : (n : ℤ) (c : Cursor) (m : ℕ) (r : Next State) → left_at_once (stands c) ≡ Some (pos m) → Takes (plan_of (count_ends (n +ℤ pos m))) r → Takes (left_seq (Q.Count n) (stands c)) r
 counts_whole n c m r e h = round count_from (M.int n ∷ stands c ∷ []) refl (same (ap plan_of (whole n (stands c) (pos m) e)) h)

@@ -167,20 +167,15 @@ is_less n m h = grind (arith, ints)
 not_less : (n m : ℕ) → m ≤ n → int_lt (pos n) (pos m) ≡ false
 not_less n m h = grind (arith, ints)
 
-module _ (d : Option Proper) (xs : List Value) (r : Next State) where
-  there : (n : ℕ) (v : Proper) → drop n xs ≡ v.value ∷ drop (n + 1) xs → Takes (give (plain v.value)) r → Takes (nth_of_vector (pos n) (default_of d) (plains xs)) r
-  there n v e h = rw (length-map plain xs, is_less n (length xs) (within xs n v.value (drop (n + 1) xs) e)) (same (ap give (at_place xs n v.value (drop (n + 1) xs) e)) h)
+pub there : (d : Option Proper) (xs : List Value) (n : ℕ) (v : Proper) (r : Next State) → drop n xs ≡ v.value ∷ drop (n + 1) xs → Takes (give (plain v.value)) r → Takes (nth_of_vector (pos n) (default_of d) (plains xs)) r
+there d xs n v r e h = rw (length-map plain xs, is_less n (length xs) (within xs n v.value (drop (n + 1) xs) e)) (same (ap give (at_place xs n v.value (drop (n + 1) xs) e)) h)
 
-  past : (n : ℕ) → drop n xs ≡ [] → Takes (plan_of (failing (default_of d))) r → Takes (nth_of_vector (pos n) (default_of d) (plains xs)) r
-  past n e h = rw (length-map plain xs, not_less n (length xs) (beyond xs n e)) h
+pub past : (d : Option Proper) (xs : List Value) (n : ℕ) (r : Next State) → drop n xs ≡ [] → Takes (plan_of (failing (default_of d))) r → Takes (nth_of_vector (pos n) (default_of d) (plains xs)) r
+past d xs n r e h = rw (length-map plain xs, not_less n (length xs) (beyond xs n e)) h
 
-pub is_there : (i : ℤ) (d : Option Proper) (xs : List Value) (v : Proper) (r : Next State) → int_lt i (pos 0) ≡ false → drop (unsigned_abs i) xs ≡ v.value ∷ drop (unsigned_abs i + 1) xs → Takes (give (plain v.value)) r → Takes (nth_of_vector i (default_of d) (plains xs)) r
-is_there (pos n) d xs v r b e h = there d xs r n v e h
-is_there (negsuc n) d xs v r b e h = absurd cc
-
-pub is_beyond : (i : ℤ) (d : Option Proper) (xs : List Value) (r : Next State) → int_lt i (pos 0) ≡ false → drop (unsigned_abs i) xs ≡ [] → Takes (plan_of (failing (default_of d))) r → Takes (nth_of_vector i (default_of d) (plains xs)) r
-is_beyond (pos n) d xs r b e h = past d xs r n e h
-is_beyond (negsuc n) d xs r b e h = absurd cc
+pub is_at : (i : ℤ) (n : ℕ) (d : Option Proper) (xs ys : List Value) (r : Next State) → int_lt i (pos 0) ≡ false → n ≡ unsigned_abs i → ys ≡ xs → Takes (nth_of_vector (pos n) (default_of d) (plains ys)) r → Takes (nth_of_vector i (default_of d) (plains xs)) r
+is_at (pos m) n d xs ys r b e f h = same (λ k. nth_of_vector (pos (e k)) (default_of d) (plains (f k))) h
+is_at (negsuc m) n d xs ys r b e f h = absurd cc
 
 pub is_below : (i : ℤ) (d : Option Proper) (xs : List Value) (r : Next State) → int_lt i (pos 0) ≡ true → Takes (plan_of (failing (default_of d))) r → Takes (nth_of_vector i (default_of d) (plains xs)) r
 is_below (pos n) d xs r b h = absurd cc

@@ -1,5 +1,5 @@
 //! `last` and `count`.
-ghost use Rattle.std.specs.Prelude.{◌≡◌, ◌+ℤ◌, pos, length, Some, IfOk, IsSome};
+ghost use Rattle.std.specs.Prelude.{◌≡◌, ◌-◌, ◌+ℤ◌, pos, length, Some, IfOk, IsSome, IsTrue};
 ghost use Rattle.lazy_rows.specs.Walks.{last_rule, count_rule, count_ends};
 ghost use Rattle.seq_base.specs.declared.thrown.Thrown.TheVariants.{Overflow};
 ghost use Rattle.seq_plan.specs.Arguments.{of_value};
@@ -8,6 +8,7 @@ ghost use Rattle.seq_plan.specs.Plan.{visit, give, throw, plan_of};
 ghost use Rattle.seq_turns.specs.Seen.{seen};
 ghost use Rattle.seq_values.specs.Model as M;
 ghost use Rattle.seq_values.specs.Plain.{plain, plains};
+ghost use Rattle.seq_values.specs.WellFormed.{is_well_formed};
 ghost use Rattle.walk_rules.specs.Left.{left_seq, left_step, Takes};
 ghost use Rattle.walk_rules.specs.Shapes.{IsCounted};
 ghost use Rattle.walk_rules.specs.Words.{range_left, vector_left};
@@ -26,7 +27,7 @@ use seq_base::Thrown;
 use seq_plan::{Cursor, RangeLeft, VecLeft};
 use seq_turns::{Next, Proper, ProperList, Seen, cursor_value, split_cursor, step_cursor};
 use seq_values::{Node, Value};
-use seq_vector::NoMemory;
+use seq_vector::{NoMemory, PVec};
 use std::alloc::Global;
 
 /// `last`
@@ -169,8 +170,10 @@ fn range_counted(alloc: Global, range: RangeLeft) -> Result<Counted, NoMemory>
 }
 
 /// How many integers are left of a range.
+#[tactic(auto, using(crate::proofs::Counts::range_counts))]
 fn left_in_range(node: Value) -> u64
-    requires { IsSome (range_left (plain node)) }
+    requires well { IsTrue (is_well_formed node) }
+    requires range { IsSome (range_left (plain node)) }
     ensures { range_left (plain node) ≡ Some (pos result) }
 {
     match node {
@@ -187,16 +190,21 @@ fn vector_counted(alloc: Global, vector: VecLeft) -> Result<Counted, NoMemory>
 }
 
 /// How many items are left of a vector's seq.
+#[tactic(auto, using(crate::proofs::Counts::vector_counts))]
 fn left_in_vector(node: Value) -> u64
     requires { IsSome (vector_left (plain node)) }
     ensures { vector_left (plain node) ≡ Some (pos result) }
 {
     match node {
-        Value::Node(Node::VecSeq { items, at, .. }) => items
-            .len()
-            .saturating_sub(at as usize) as u64,
+        Value::Node(Node::VecSeq { depth, items, at }) => items_left(depth, items, at),
         _ => unreachable!(),
     }
+}
+
+fn items_left(depth: u32, items: PVec<Value>, at: u32) -> u64
+    ensures { result ≡ length items - at }
+{
+    items.len().saturating_sub(at as usize) as u64
 }
 
 /// An element was counted.

@@ -44,18 +44,56 @@ fn at_end(once: Once) -> Next<State>
 }
 
 /// There is an element.
-#[tactic(auto, using(crate::proofs::Onces::some_first, crate::proofs::Onces::some_second, crate::proofs::Onces::some_rest, crate::proofs::Onces::some_next, crate::proofs::Onces::some_there))]
 fn at_place(alloc: Global, once: Once, place: Cursor) -> Result<Next<State>, NoMemory>
     ensures { IfOk result (λ r. Takes (left_once once (stands place)) r) }
 {
     match once {
         Once::Seq => gives_node(alloc, place),
-        Once::First => Ok(gives_first(place)?),
-        Once::Second => Ok(asks_second(place)?),
-        Once::Rest => Ok(gives_rest(alloc, place)?),
-        Once::Next => Ok(asks_next(alloc, place)?),
-        Once::IsEmpty => Ok(gives_some(place)),
+        Once::First => first_there(place),
+        Once::Second => second_there(place),
+        Once::Rest => rest_there(alloc, place),
+        Once::Next => next_there(alloc, place),
+        Once::IsEmpty => Ok(some_there(place)),
     }
+}
+
+#[tactic(auto, using(crate::proofs::Onces::some_first))]
+fn first_there(place: Cursor) -> Result<Next<State>, NoMemory>
+    ensures { IfOk result (λ r. Takes (left_once Once.First (stands place)) r) }
+{
+    let next = gives_first(place)?;
+    Ok(next)
+}
+
+#[tactic(auto, using(crate::proofs::Onces::some_second))]
+fn second_there(place: Cursor) -> Result<Next<State>, NoMemory>
+    ensures { IfOk result (λ r. Takes (left_once Once.Second (stands place)) r) }
+{
+    let next = asks_second(place)?;
+    Ok(next)
+}
+
+#[tactic(auto, using(crate::proofs::Onces::some_rest))]
+fn rest_there(alloc: Global, place: Cursor) -> Result<Next<State>, NoMemory>
+    ensures { IfOk result (λ r. Takes (left_once Once.Rest (stands place)) r) }
+{
+    let next = gives_rest(alloc, place)?;
+    Ok(next)
+}
+
+#[tactic(auto, using(crate::proofs::Onces::some_next))]
+fn next_there(alloc: Global, place: Cursor) -> Result<Next<State>, NoMemory>
+    ensures { IfOk result (λ r. Takes (left_once Once.Next (stands place)) r) }
+{
+    let next = asks_next(alloc, place)?;
+    Ok(next)
+}
+
+#[tactic(auto, using(crate::proofs::Onces::some_there))]
+fn some_there(place: Cursor) -> Next<State>
+    ensures { Takes (left_once Once.IsEmpty (stands place)) result }
+{
+    gives_some(place)
 }
 
 #[tactic(auto, using(crate::proofs::Taking::gives_same))]

@@ -1,5 +1,5 @@
 //! `nth`.
-ghost use Rattle.std.specs.Prelude.{◌≡◌, ◌∷◌, IfOk};
+ghost use Rattle.std.specs.Prelude.{◌≡◌, ◌∷◌, pos, unsigned_abs, IfOk};
 ghost use Rattle.lazy_rows.specs.Walks.{nth_call, nth_rule, nth_of_nil, nth_of_vector, failing};
 ghost use Rattle.seq_plan.specs.Cursors.{stands};
 ghost use Rattle.seq_plan.specs.Nodes.{first_of};
@@ -96,7 +96,7 @@ fn nowhere(default: Option<Proper>) -> Next<State>
 }
 
 /// The item at a place of a vector.
-#[tactic(auto, using(crate::proofs::Places::is_there, crate::proofs::Places::is_below, crate::proofs::Places::is_beyond))]
+#[tactic(auto, using(crate::proofs::Places::is_below, crate::proofs::Places::is_at))]
 fn nth_listed(listed: Listed, index: i64, default: Option<Proper>) -> Result<Next<State>, NoMemory>
     ensures { IfOk result (λ r. Takes (nth_of_vector index (default_of default) (plains listed.items)) r) }
 {
@@ -104,7 +104,22 @@ fn nth_listed(listed: Listed, index: i64, default: Option<Proper>) -> Result<Nex
     if index < 0 {
         return Ok(outside(items, default));
     }
-    match items.get(index.unsigned_abs() as usize)? {
+    let next = nth_item(items, place_of(index), default)?;
+    Ok(next)
+}
+
+/// A place that isn't below 0.
+fn place_of(index: i64) -> usize
+    ensures { result ≡ unsigned_abs index }
+{
+    index.unsigned_abs() as usize
+}
+
+#[tactic(auto, using(crate::proofs::Places::there, crate::proofs::Places::past))]
+fn nth_item(items: ProperList, at: usize, default: Option<Proper>) -> Result<Next<State>, NoMemory>
+    ensures { IfOk result (λ r. Takes (nth_of_vector (pos at) (default_of default) (plains items.items)) r) }
+{
+    match items.get(at)? {
         Some(value) => Ok(inside(items, value, default)),
         None => Ok(outside(items, default)),
     }

@@ -103,7 +103,6 @@ fn answered(function: Proper, answer: Proper) -> Next<State>
 }
 
 /// The function is called with the answer so far and the first element.
-#[tactic(auto, using(crate::proofs::Reductions::reduce_calls))]
 pub(crate) fn reduce_step(
     alloc: Global,
     function: Proper,

@@ -103,7 +103,6 @@ fn undecided(quest: Quest, test: Proper) -> Next<State>
 }
 
 /// The test is asked of the first element.
-#[tactic(auto, using(crate::proofs::Searches::search_calls))]
 pub(crate) fn search_step(
     alloc: Global,
     quest: Quest,
