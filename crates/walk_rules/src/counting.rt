@@ -9,6 +9,8 @@ ghost use Rattle.seq_turns.specs.Seen.{seen};
 ghost use Rattle.seq_values.specs.Model as M;
 ghost use Rattle.seq_values.specs.Plain.{plain, plains};
 ghost use Rattle.seq_values.specs.WellFormed.{is_well_formed};
+ghost use Rattle.seq_values.specs.declared.value.Node.TheVariants as N;
+ghost use Rattle.seq_values.specs.declared.value.Value.TheVariants as V;
 ghost use Rattle.walk_rules.specs.Left.{left_seq, left_step, Takes};
 ghost use Rattle.walk_rules.specs.Shapes.{IsCounted};
 ghost use Rattle.walk_rules.specs.Words.{range_left, vector_left};
@@ -190,18 +192,34 @@ fn vector_counted(alloc: Global, vector: VecLeft) -> Result<Counted, NoMemory>
 }
 
 /// How many items are left of a vector's seq.
-#[tactic(auto, using(crate::proofs::Counts::vector_counts))]
 fn left_in_vector(node: Value) -> u64
     requires { IsSome (vector_left (plain node)) }
     ensures { vector_left (plain node) ≡ Some (pos result) }
 {
     match node {
-        Value::Node(Node::VecSeq { depth, items, at }) => items_left(depth, items, at),
+        Value::Node(node) => left_in_node(node),
+        _ => unreachable!(),
+    }
+}
+
+fn left_in_node(node: Node) -> u64
+    requires { IsSome (vector_left (plain (V.Node node))) }
+    ensures { vector_left (plain (V.Node node)) ≡ Some (pos result) }
+{
+    match node {
+        Node::VecSeq { depth, items, at } => items_left(depth, items, at),
         _ => unreachable!(),
     }
 }
 
 fn items_left(depth: u32, items: PVec<Value>, at: u32) -> u64
+    ensures { vector_left (plain (V.Node (N.VecSeq depth items at))) ≡ Some (pos result) }
+{
+    let left = items_behind(items, at);
+    left
+}
+
+fn items_behind(items: PVec<Value>, at: u32) -> u64
     ensures { result ≡ length items - at }
 {
     items.len().saturating_sub(at as usize) as u64

@@ -115,7 +115,6 @@ fn place_of(index: i64) -> usize
     index.unsigned_abs() as usize
 }
 
-#[tactic(auto, using(crate::proofs::Places::there, crate::proofs::Places::past))]
 fn nth_item(items: ProperList, at: usize, default: Option<Proper>) -> Result<Next<State>, NoMemory>
     ensures { IfOk result (λ r. Takes (nth_of_vector (pos at) (default_of default) (plains items.items)) r) }
 {
