@@ -136,6 +136,9 @@ sum_over n m r e b h = same (ap (λ k. plan_of (count_ends k)) e) (over m r b h)
 pub sum_same : (n m : ℤ) (r : Next State) → m ≡ n → Takes (plan_of (count_ends m)) r → Takes (plan_of (count_ends n)) r
 sum_same n m r e h = same (ap (λ k. plan_of (count_ends k)) e) h
 
+pub count_passes : (n m : ℤ) (c : Cursor) (rest : Rest) (r : Next State) → rested rest ≡ rest_of (stands c) → Takes (seq (rested rest) (λ s. left_seq (Q.Count m) s)) r → m ≡ n +ℤ pos 1 → int_le (n +ℤ pos 1) greatest ≡ true → Takes (left_step (T.Count n c)) r
+count_passes n m c rest r f h e t = rw t (same (λ i. seq (f i) (λ s. go count_from (M.int (e i) ∷ s ∷ []) give)) h)
+
 pub count_steps : (n m : ℤ) (c : Cursor) (rest : Rest) (r : Next State) → m ≡ n +ℤ pos 1 → int_le m greatest ≡ true → rested rest ≡ rest_of (stands c) → Takes (seq (rested rest) (λ s. left_seq (Q.Count m) s)) r → Takes (left_step (T.Count n c)) r
 count_steps n m c rest r e b f h =
     let t : int_le (n +ℤ pos 1) greatest ≡ true = sym (ap (λ k. int_le k greatest) e) ∙ b in

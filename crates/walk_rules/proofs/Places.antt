@@ -167,18 +167,24 @@ is_less n m h = grind (arith, ints)
 not_less : (n m : ℕ) → m ≤ n → int_lt (pos n) (pos m) ≡ false
 not_less n m h = grind (arith, ints)
 
+from_zero : (n : ℕ) → int_le (pos 0) (pos n) ≡ true
+from_zero n = grind (arith, ints)
+
+not_below : (n : ℕ) → int_lt (pos n) (pos 0) ≡ true → ⊥
+not_below n b = let e : int_lt (pos n) (pos 0) ≡ false = not_less n 0 (omega arith) in absurd cc
+
 pub there : (d : Option Proper) (xs : List Value) (n : ℕ) (v : Proper) (r : Next State) → drop n xs ≡ v.value ∷ drop (n + 1) xs → Takes (give (plain v.value)) r → Takes (nth_of_vector (pos n) (default_of d) (plains xs)) r
-there d xs n v r e h = rw (length-map plain xs, is_less n (length xs) (within xs n v.value (drop (n + 1) xs) e)) (same (ap give (at_place xs n v.value (drop (n + 1) xs) e)) h)
+there d xs n v r e h = simp (length-map xs plain, from_zero n, is_less n (length xs) (within xs n v.value (drop (n + 1) xs) e)) (same (ap give (at_place xs n v.value (drop (n + 1) xs) e)) h)
 
 pub past : (d : Option Proper) (xs : List Value) (n : ℕ) (r : Next State) → drop n xs ≡ [] → Takes (plan_of (failing (default_of d))) r → Takes (nth_of_vector (pos n) (default_of d) (plains xs)) r
-past d xs n r e h = rw (length-map plain xs, not_less n (length xs) (beyond xs n e)) h
+past d xs n r e h = simp (length-map xs plain, from_zero n, not_less n (length xs) (beyond xs n e)) h
 
 pub is_at : (i : ℤ) (n : ℕ) (d : Option Proper) (xs ys : List Value) (r : Next State) → int_lt i (pos 0) ≡ false → n ≡ unsigned_abs i → ys ≡ xs → Takes (nth_of_vector (pos n) (default_of d) (plains ys)) r → Takes (nth_of_vector i (default_of d) (plains xs)) r
 is_at (pos m) n d xs ys r b e f h = same (λ k. nth_of_vector (pos (e k)) (default_of d) (plains (f k))) h
 is_at (negsuc m) n d xs ys r b e f h = absurd cc
 
 pub is_below : (i : ℤ) (d : Option Proper) (xs : List Value) (r : Next State) → int_lt i (pos 0) ≡ true → Takes (plan_of (failing (default_of d))) r → Takes (nth_of_vector i (default_of d) (plains xs)) r
-is_below (pos n) d xs r b h = absurd cc
+is_below (pos n) d xs r b h = absurd (not_below n b)
 is_below (negsuc n) d xs r b h = h
 
 -- ## Rounds
@@ -197,6 +203,9 @@ nth_here n d c r b h = round nth_from (M.int n ∷ stands c ∷ default_of d) re
 
 pub nth_goes : (n m : ℤ) (d : Option Proper) (c : Cursor) (r : Next State) → int_le n (pos 0) ≡ false → m ≡ n -ℤ pos 1 → Takes (visit (left_step (T.Nth m d c))) r → Takes (left_seq (Q.Nth n d) (stands c)) r
 nth_goes n m d c r b e h = round nth_from (M.int n ∷ stands c ∷ default_of d) refl (rw (some_cursor c, b) (same (ap (λ k. visit (left_step (T.Nth k d c))) e) h))
+
+pub nth_passes : (n m : ℤ) (d : Option Proper) (c : Cursor) (rest : Rest) (r : Next State) → rested rest ≡ rest_of (stands c) → Takes (seq (rested rest) (λ s. left_seq (Q.Nth m d) s)) r → m ≡ n → Takes (left_step (T.Nth n d c)) r
+nth_passes n m d c rest r e h f = same (λ i. seq (e i) (λ s. left_seq (Q.Nth (f i) d) s)) h
 
 pub nth_steps : (n : ℤ) (d : Option Proper) (c : Cursor) (rest : Rest) (r : Next State) → rested rest ≡ rest_of (stands c) → Takes (seq (rested rest) (λ s. left_seq (Q.Nth n d) s)) r → Takes (left_step (T.Nth n d c)) r
 nth_steps n d c rest r e h = same (ap (λ v. seq v (λ s. left_seq (Q.Nth n d) s)) e) h
