@@ -1,0 +1,11 @@
+pub mod ByNumber
+pub mod Taking
+pub mod Onces
+pub mod Beginning
+pub mod Places
+pub mod Counts
+pub mod Gathers
+pub mod Joins
+pub mod Searches
+pub mod Reductions
+pub mod Equals

@@ -1,0 +1,5 @@
+use Rattle.walk_rules.proofs.Reductions.{reduce_calls}
+use Rattle.walk_rules.proofs.reducing.reduce_step.Goals as goal
+
+pub returns : goal.returns
+returns c = reduce_calls c.args.function c.args.answer c.args.place c.in_ok-split.split.first c.in_ok-args.args.items c.in_ok-split.split.rest c.in_ok-called.called c.asks_call.result c.in_ok-split.ensures.first c.in_ok-split.ensures.rest c.in_ok-called.ensures c.in_ok-args.ensures.stands c.asks_call.ensures
