@@ -1,0 +1,6 @@
+pub mod Seeing
+pub mod Listing
+pub mod Limits
+pub mod Spans
+pub mod Taking
+pub mod Transport

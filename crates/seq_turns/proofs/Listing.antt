@@ -1,0 +1,84 @@
+-- Lists of well-formed values.
+use Rattle.std.proofs.Common.{◌≡◌, ℕ, zero, suc, ◌+◌, ◌<◌, ◌≤◌, nat_le, Bool, true, false, List, [], ◌∷◌, ◌++◌, length, drop, reverse, slice_get, Some, None, ◌&&◌, refl, ap, sym, subst, ◌∙◌, rules, arith, length-append}
+use Rattle.std.specs.Prelude.{IsTrue, Bor}
+use Rattle.std.specs.declared.option.Option.{Option}
+use Rattle.std.specs.Option.{option_copied}
+use Rattle.std.proofs.lemmas.List.{length-map, map-append, length-reverse, reverse-append}
+use Rattle.seq_base.specs.declared.thrown.Thrown.TheVariants.{Overflow}
+use Rattle.seq_values.specs.Model as M
+use Rattle.seq_values.specs.Plain.{plain, plains}
+use Rattle.seq_values.specs.WellFormed.{is_well_formed, are_well_formed}
+use Rattle.seq_values.specs.declared.value.Value.{Value}
+use Rattle.seq_values.proofs.DepthLemmas.{and_parts, both}
+use Rattle.seq_values.proofs.WellFormedLemmas.{one_well, well_joined, member_well}
+use Rattle.seq_plan.specs.Plan.{Plan, throw}
+use Rattle.seq_plan.specs.Nodes.{with_members, longest}
+use Rattle.seq_turns.specs.Making.{Grows}
+use Rattle.seq_turns.specs.declared.made.Grown.{Grown}
+use Rattle.seq_turns.specs.declared.made.Grown.TheVariants as G
+use Rattle.seq_turns.specs.declared.proper.Gathered.{Gathered}
+
+pub two_well : (v w : Value) → IsTrue (is_well_formed v) → IsTrue (is_well_formed w) → IsTrue (are_well_formed (v ∷ w ∷ []))
+two_well v w h k = both _ _ h (one_well w k)
+
+pub more_well : (xs : List Value) (x : Value) → IsTrue (are_well_formed xs) → IsTrue (is_well_formed x) → IsTrue (are_well_formed (xs ++ x ∷ []))
+more_well xs x h k = well_joined xs (x ∷ []) h (one_well x k)
+
+pub more_long : (xs : List Value) (x : Value) → length xs < 4294967295 → length (xs ++ x ∷ []) ≤ 4294967295
+more_long xs x h = omega (arith, length-append xs (x ∷ []))
+
+-- ## Items
+
+pub item_well : (xs : List Value) (k : ℕ) (x y : Value) → slice_get xs k ≡ Some x → y ≡ x → IsTrue (are_well_formed xs) → IsTrue (is_well_formed y)
+item_well xs k x y p e h = subst (λ z. IsTrue (is_well_formed z)) (sym e) (member_well xs k x (sym p) h)
+
+pub drop_none : (xs : List Value) (k : ℕ) → slice_get xs k ≡ None → drop k xs ≡ []
+drop_none [] zero p = refl
+drop_none [] (suc k) p = refl
+drop_none (x ∷ xs) zero p = absurd cc
+drop_none (x ∷ xs) (suc k) p = drop_none xs k p
+
+pub drop_shared : (xs : List Value) (k : ℕ) (x y : Value) → slice_get xs k ≡ Some x → y ≡ x → drop k xs ≡ y ∷ drop (k + 1) xs
+drop_shared [] k x y p q = absurd cc
+drop_shared (z ∷ xs) zero x y p q = let e : z ≡ y = cc in ap (λ w. w ∷ xs) e
+drop_shared (z ∷ xs) (suc k) x y p q =
+    let e : suc k + 1 ≡ suc (k + 1) = omega arith in
+    rw e (drop_shared xs k x y p q)
+
+-- ## One more
+
+is_le : (a b : ℕ) → a ≤ b → nat_le a b ≡ true
+is_le a b h = search (rules, arith)
+
+not_le : (a b : ℕ) → b < a → nat_le a b ≡ false
+not_le a b h = search (rules, arith)
+
+pub plains_more : (xs : List Value) (x : Value) → plains (xs ++ x ∷ []) ≡ plains xs ++ plain x ∷ []
+plains_more xs x = map-append plain xs (x ∷ [])
+
+long_more : (xs : List Value) (x : Value) → length (plains xs ++ plain x ∷ []) ≡ length xs + 1
+long_more xs x = length-append (plains xs) (plain x ∷ []) ∙ ap (λ n. n + 1) (length-map xs plain)
+
+pub grows_all : (xs : List Value) (x : Value) (all : Gathered) → length xs < 4294967295 → plains all.items.items ≡ plains xs ++ plain x ∷ [] → Grows (with_members (plains xs ++ plain x ∷ [])) (G.All all)
+grows_all xs x all b e =
+    let l : nat_le (length (plains xs ++ plain x ∷ [])) longest ≡ true = is_le _ _ (omega (arith, long_more xs x, b)) in
+    λ k. rw l (ap k (sym e))
+
+pub grows_no_more : (xs : List Value) (x : Value) → 4294967295 ≤ length xs → Grows (with_members (plains xs ++ plain x ∷ [])) G.TooMany
+grows_no_more xs x b =
+    let l : nat_le (length (plains xs ++ plain x ∷ [])) longest ≡ false = not_le _ _ (omega (arith, long_more xs x, b)) in
+    λ k. rw l refl
+
+-- ## Turned round
+
+pub turned_well : (xs : List Value) → IsTrue (are_well_formed xs) → IsTrue (are_well_formed (reverse xs))
+turned_well [] w = refl
+turned_well (x ∷ xs) w =
+    let parts = and_parts (is_well_formed x) (are_well_formed xs) w in
+    ap are_well_formed (reverse-append (x ∷ []) xs) ∙ well_joined (reverse xs) (x ∷ []) (turned_well xs parts.1) (one_well x parts.0)
+
+pub turned_long : (xs : List Value) → length xs ≤ 4294967295 → length (reverse xs) ≤ 4294967295
+turned_long xs h = omega (arith, length-reverse xs)
+
+pub one_longer : (xs ys : List Value) (x : Value) (n : ℕ) → length xs ≡ n → ys ≡ xs ++ x ∷ [] → length ys ≡ n + 1
+one_longer xs ys x n e p = ap length p ∙ length-append xs (x ∷ []) ∙ ap (λ m. m + 1) e
