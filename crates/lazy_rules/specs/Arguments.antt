@@ -12,9 +12,13 @@ abbrev pub number : M.Value ℕ → Option ℤ
 number (M.int n) = Some n
 number _ = None
 
+abbrev pub counted_with : M.Value ℕ → Option ℤ → Option (ℤ × M.Value ℕ)
+counted_with c (Some n) = Some (n, c)
+counted_with c None = None
+
 -- an integer and a second argument
 abbrev pub counted : List (M.Value ℕ) → Option (ℤ × M.Value ℕ)
-counted (M.int n ∷ c ∷ []) = Some (n, c)
+counted (x ∷ c ∷ []) = counted_with c (number x)
 counted _ = None
 
 -- what is kept of an element, by what was chosen

@@ -48,11 +48,7 @@ fn apply_nil(applying: Applying) -> Next<State>
     gives_nil()
 }
 
-fn apply_place(
-    alloc: Global,
-    applying: Applying,
-    place: Cursor,
-) -> Result<Next<State>, NoMemory>
+fn apply_place(alloc: Global, applying: Applying, place: Cursor) -> Result<Next<State>, NoMemory>
     ensures { IfOk result (λ r. Takes (apply_at applying.purpose applying.chunk (plain applying.function.value) (stands place)) r) }
 {
     let Applying {

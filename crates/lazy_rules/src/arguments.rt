@@ -1,9 +1,11 @@
 //! What the rules look at among their arguments.
-ghost use Rattle.std.specs.Prelude.{◌≡◌, ◌≢◌, ◌<◌, ◌+◌, [], ◌∷◌, length, drop, IfOk, MatchOption, None};
+ghost use Rattle.std.specs.Prelude.{◌≡◌, ◌≢◌, ◌<◌, ◌+◌, [], ◌∷◌, length, drop, map, IfOk, IfSome, MatchOption, None};
 ghost use Rattle.lazy_rules.specs.Arguments.{number, counted};
 ghost use Rattle.seq_plan.specs.Nodes.{is_truthy, is_nil};
 ghost use Rattle.seq_values.specs.Model as M;
 ghost use Rattle.seq_values.specs.Plain.{plain, plains};
+ghost use Rattle.seq_values.specs.Sight.{an_int};
+ghost use Rattle.seq_values.specs.WellFormed.{sight_of};
 
 use crate::ways::let_go;
 use seq_turns::{Proper, ProperList};
@@ -12,7 +14,8 @@ use seq_vector::NoMemory;
 
 /// The integer that a value is, and `None` for a value that is none.
 pub(crate) fn number_of(value: &Value) -> Option<i64>
-    ensures { result ≡ number (plain value.now) }
+    ensures same { result ≡ number (plain value.now) }
+    ensures sight { IfSome result (λ n. sight_of value.now ≡ an_int n) }
 {
     match value {
         Value::Nil => None,
@@ -122,7 +125,8 @@ pub(crate) struct Counted {
 
 /// A number and a second argument, and `None` exactly where the arguments are something else.
 pub(crate) fn counted_of(args: ProperList) -> Result<Option<Counted>, NoMemory>
-    ensures { IfOk result (λ x. MatchOption x (counted (plains args.items) ≡ None) (λ p. plains args.items ≡ M.int p.count ∷ plain p.source.value ∷ [])) }
+    ensures same { IfOk result (λ x. MatchOption x (counted (plains args.items) ≡ None) (λ p. plains args.items ≡ M.int p.count ∷ plain p.source.value ∷ [])) }
+    ensures sights { IfOk result (λ x. IfSome x (λ p. map sight_of args.items ≡ an_int p.count ∷ sight_of p.source.value ∷ [])) }
 {
     match pair_of(args)? {
         None => Ok(None),
@@ -131,7 +135,8 @@ pub(crate) fn counted_of(args: ProperList) -> Result<Option<Counted>, NoMemory>
 }
 
 fn count_in(pair: Pair) -> Option<Counted>
-    ensures { MatchOption result (number (plain pair.first.value) ≡ None) (λ p. (plain pair.first.value ≡ M.int p.count) × (p.source.value ≡ pair.second.value)) }
+    ensures same { MatchOption result (number (plain pair.first.value) ≡ None) (λ p. (plain pair.first.value ≡ M.int p.count) × (p.source.value ≡ pair.second.value)) }
+    ensures sight { IfSome result (λ p. sight_of pair.first.value ≡ an_int p.count) }
 {
     let Pair { first, second } = pair;
     match number_of(&first.value) {

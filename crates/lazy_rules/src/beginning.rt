@@ -23,6 +23,7 @@ use seq_values::{Op, Term};
 use seq_vector::NoMemory;
 use std::alloc::Global;
 
+#[tactic(auto, using(seq_values::proofs::WellFormedLemmas::term_args, seq_values::proofs::WellFormedLemmas::term_takes))]
 /// The work of a term begins.
 pub(crate) fn work_begins(alloc: Global, work: Work) -> Result<Next<State>, NoMemory>
     ensures { IfOk result (λ r. Takes (lazy_term work.chunk work.term.op (plains work.term.args)) r) }
@@ -32,12 +33,7 @@ pub(crate) fn work_begins(alloc: Global, work: Work) -> Result<Next<State>, NoMe
     term_begins(alloc, op, ProperList { items: args }, chunk)
 }
 
-fn term_begins(
-    alloc: Global,
-    op: Op,
-    args: ProperList,
-    chunk: u32,
-) -> Result<Next<State>, NoMemory>
+fn term_begins(alloc: Global, op: Op, args: ProperList, chunk: u32) -> Result<Next<State>, NoMemory>
     requires fit { takes op (map sight_of args.items) ≡ true }
     requires positive { 0 < chunk }
     ensures { IfOk result (λ r. Takes (lazy_term chunk op (plains args.items)) r) }
@@ -106,11 +102,7 @@ fn apply_begins(
 }
 
 /// The chunk size isn't looked at.
-fn map_all_begins(
-    alloc: Global,
-    args: ProperList,
-    chunk: u32,
-) -> Result<Next<State>, NoMemory>
+fn map_all_begins(alloc: Global, args: ProperList, chunk: u32) -> Result<Next<State>, NoMemory>
     requires { takes O.MapN (map sight_of args.items) ≡ true }
     ensures { IfOk result (λ r. Takes (lazy_term chunk O.MapN (plains args.items)) r) }
 {

@@ -17,7 +17,9 @@ use crate::state::{AtPart, AtSeq, AtStep, Group, State};
 use crate::ways::{gives_nil, let_go, makes, seeks, throws, visits};
 use seq_base::Thrown;
 use seq_plan::Cursor;
-use seq_turns::{Gathered, Grown, Next, Proper, Rest, Seen, Sought, Split, rest_value, seek, split_cursor};
+use seq_turns::{
+    Gathered, Grown, Next, Proper, Rest, Seen, Sought, Split, rest_value, seek, split_cursor,
+};
 use seq_values::Op;
 use seq_vector::NoMemory;
 use std::alloc::Global;

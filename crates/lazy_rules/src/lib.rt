@@ -19,3 +19,4 @@ mod words;
 
 pub use state::RuleState;
 pub use turns::{begin, begin_word, turn};
+pub use words::is_lazy_word;

@@ -115,7 +115,12 @@ pub(crate) fn first_and_rest(
 
 /// The values from a place on, behind a first one.
 #[tactic(auto, using(crate::proofs::MadeTerms::tail_more))]
-fn with_tail(alloc: Global, first: Proper, values: &ProperList, at: usize) -> Result<Gathered, NoMemory>
+fn with_tail(
+    alloc: Global,
+    first: Proper,
+    values: &ProperList,
+    at: usize,
+) -> Result<Gathered, NoMemory>
     requires { (0 < at) × (at ≤ length values.now.items) }
     ensures { IfOk result (λ all. all.items.items ≡ first.value ∷ drop at values.now.items) }
 {

@@ -112,11 +112,7 @@ fn all_there(
 }
 
 /// The function is called with the first elements, unless one of the seqs is nil.
-fn calls_all(
-    alloc: Global,
-    function: Proper,
-    seqs: Vec<Seen>,
-) -> Result<Next<State>, NoMemory>
+fn calls_all(alloc: Global, function: Proper, seqs: Vec<Seen>) -> Result<Next<State>, NoMemory>
     requires { (2 ≤ length seqs.items) × (length seqs.items ≤ 4) }
     ensures { IfOk result (λ r. Takes (map_all_on (plain function.value) (seens seqs.items)) r) }
 {

@@ -108,8 +108,8 @@ pub(crate) struct Group {
     pub(crate) size: i64,
     pub(crate) left: i64,
     pub(crate) taken: Gathered,
-    ghost size: { pos 0 <ℤ size },
-    ghost left: { pos 0 <ℤ left },
+    ghost some: { pos 0 <ℤ size },
+    ghost more: { pos 0 <ℤ left },
 }
 
 /// A rule that hasn't begun.
@@ -126,58 +126,36 @@ pub(crate) enum AtSeq {
     /// One of several collections that a function maps over.
     MapAll(Gathering),
     /// So many are to be taken after the first one.
-    Take {
-        left: i64,
-    },
-    Drop {
-        count: i64,
-    },
+    Take { left: i64 },
+    Drop { count: i64 },
     /// The collection before place `at`.
     Concat(Collections),
-    Cycle {
-        whole: Proper,
-    },
+    Cycle { whole: Proper },
     /// The whole, from which a round begins.
-    CycleAgain {
-        whole: Proper,
-    },
+    CycleAgain { whole: Proper },
     Parts(Group),
     /// What comes after the last element that was taken.
-    PartsNext {
-        group: Group,
-        rest: Proper,
-    },
+    PartsNext { group: Group, rest: Proper },
 }
 
 /// A rule that waits for its own step.
 #[derive(Drop)]
 pub(crate) enum AtStep {
     /// So many are to be dropped after the first one.
-    Drop {
-        count: i64,
-        place: Cursor,
-    },
-    Parts {
-        group: Group,
-        place: Cursor,
-    },
+    Drop { count: i64, place: Cursor },
+    Parts { group: Group, place: Cursor },
 }
 
 /// A rule that waits for the answer of a call.
 #[derive(Drop)]
 pub(crate) enum AtValue {
     /// The call with the first element of a node.
-    Element {
-        applying: Applying,
-        place: Cursor,
-    },
+    Element { applying: Applying, place: Cursor },
     /// The call with an element of a chunk.
     Chunk(Sifting),
     /// The call with the first elements of several nodes, whose rests are in the term.
     MapAll(ProperTerm),
-    Next {
-        function: Proper,
-    },
+    Next { function: Proper },
 }
 
 /// A rule that waits for its part.
@@ -194,9 +172,7 @@ pub(crate) enum AtPart {
     /// The answer of `mapcat`'s function, which comes before the part.
     Mapcat(Proper),
     /// So many are to be taken of the part.
-    TakeOf {
-        count: i64,
-    },
+    TakeOf { count: i64 },
 }
 
 /// Where a rule stands, by what it waits for.

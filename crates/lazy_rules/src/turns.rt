@@ -23,7 +23,10 @@ use crate::sifting::chunk_answer;
 use crate::state::{AtBegin, AtPart, AtSeq, AtStep, AtValue, Call, RuleState, State, Work};
 use crate::ways::{gives, seeks};
 use crate::words::call_begins;
-use seq_turns::{Next, Proper, Seen, Sought, gives_first_before, gives_items_before, gives_list_before, seek, seen_of};
+use seq_turns::{
+    Next, Proper, Seen, Sought, gives_first_before, gives_items_before, gives_list_before, seek,
+    seen_of,
+};
 use seq_values::{Answer, Builtin, CellId, Term, Turn, Value};
 use seq_vector::{NoMemory, PVec};
 use std::alloc::Global;

@@ -1,5 +1,5 @@
 //! The words of lazy operations: what a call makes, and gives.
-ghost use Rattle.std.specs.Prelude.{◌≡◌, ◌≢◌, ℤ, true, map, length, [], ◌∷◌, Some, IfOk, IsTrue};
+ghost use Rattle.std.specs.Prelude.{◌≡◌, ◌≢◌, ℤ, true, map, length, [], ◌∷◌, List, Some, IfOk, IfSome, IsTrue};
 ghost use Rattle.lazy_rules.specs.Arguments.{first_number, number};
 ghost use Rattle.lazy_rules.specs.Left.{Takes};
 ghost use Rattle.lazy_rules.specs.Words.{is_lazy_word};
@@ -27,6 +27,31 @@ use seq_values::{Builtin, Node, Op, Target, Value, XfKind, word_value};
 use seq_vector::NoMemory;
 use std::alloc::Global;
 
+/// Whether a word is one of a lazy operation, the transducer `cat` among them.
+pub fn is_lazy_word(word: Builtin) -> bool
+    ensures { result ≡ is_lazy_word word }
+{
+    match word {
+        Builtin::Map => true,
+        Builtin::Filter => true,
+        Builtin::Keep => true,
+        Builtin::Remove => true,
+        Builtin::Take => true,
+        Builtin::Drop => true,
+        Builtin::TakeWhile => true,
+        Builtin::DropWhile => true,
+        Builtin::Concat => true,
+        Builtin::Mapcat => true,
+        Builtin::Iterate => true,
+        Builtin::Range => true,
+        Builtin::Repeat => true,
+        Builtin::Cycle => true,
+        Builtin::PartitionAll => true,
+        Builtin::Cat => true,
+        _ => false,
+    }
+}
+
 /// A call of a word begins.
 pub(crate) fn call_begins(alloc: Global, call: Call) -> Result<Next<State>, NoMemory>
     ensures { IfOk result (λ r. Takes (walk_call call.word (plains call.args)) r) }
@@ -35,11 +60,7 @@ pub(crate) fn call_begins(alloc: Global, call: Call) -> Result<Next<State>, NoMe
     word_begins(alloc, word, ProperList { items: args })
 }
 
-fn word_begins(
-    alloc: Global,
-    word: Builtin,
-    args: ProperList,
-) -> Result<Next<State>, NoMemory>
+fn word_begins(alloc: Global, word: Builtin, args: ProperList) -> Result<Next<State>, NoMemory>
     requires { IsTrue (is_lazy_word word) }
     ensures { IfOk result (λ r. Takes (walk_call word (plains args.items)) r) }
 {
@@ -155,7 +176,8 @@ fn filter_not(alloc: Global, pair: Pair) -> Result<Next<State>, NoMemory>
 
 /// The first argument, where it is an integer.
 fn first_number(args: &ProperList) -> Option<i64>
-    ensures { result ≡ first_number (plains args.now.items) }
+    ensures same { result ≡ first_number (plains args.now.items) }
+    ensures sight { (x : Value) (xs : List Value) → args.now.items ≡ x ∷ xs → IfSome result (λ n. sight_of x ≡ an_int n) }
 {
     match args.items.get(0) {
         None => None,
@@ -208,7 +230,9 @@ fn wrong_size(args: ProperList) -> Next<State>
 }
 
 fn partition_stage(size: i64, args: ProperList) -> Next<State>
-    requires { plains args.items ≡ M.int size ∷ [] }
+    requires one { length args.items ≡ 1 }
+    requires size { first_number (plains args.items) ≡ Some size }
+    requires sight { (x : Value) (xs : List Value) → args.items ≡ x ∷ xs → sight_of x ≡ an_int size }
     ensures { Takes (partition_call (plains args.items)) result }
 {
     if size < 1 {
@@ -219,7 +243,9 @@ fn partition_stage(size: i64, args: ProperList) -> Next<State>
 }
 
 fn partition_cell(size: i64, args: ProperList) -> Next<State>
-    requires { (length args.items ≡ 2) × (first_number (plains args.items) ≡ Some size) }
+    requires two { length args.items ≡ 2 }
+    requires size { first_number (plains args.items) ≡ Some size }
+    requires sight { (x : Value) (xs : List Value) → args.items ≡ x ∷ xs → sight_of x ≡ an_int size }
     ensures { Takes (partition_call (plains args.items)) result }
 {
     if size < 1 {

@@ -1,0 +1,12 @@
+pub mod Taking
+pub mod MadeTerms
+pub mod Arguments
+pub mod ApplyTurns
+pub mod SiftTurns
+pub mod DropTurns
+pub mod CycleTurns
+pub mod GroupTurns
+pub mod ConcatTurns
+pub mod MapAllTurns
+pub mod BeginTurns
+pub mod WordTurns

@@ -1,0 +1,64 @@
+-- How a turn of this crate's rules takes a node of each plan that may be passed on to it.
+use Rattle.std.specs.declared.result.Result.{Result}
+use Rattle.std.proofs.Common.{◌≡◌, ℕ, Bool, true, false, Ok, Err, IfOk, List, [], ◌∷◌, refl, ap, sym, ◌∙◌}
+use Rattle.seq_values.specs.Model as M
+use Rattle.seq_values.specs.Plain.{plain, plains, plain_term}
+use Rattle.seq_values.specs.declared.term.Term.{Term}
+use Rattle.seq_values.specs.declared.words.Op.{Op}
+use Rattle.seq_values.specs.declared.words.Kind.{Kind}
+use Rattle.seq_values.specs.declared.value.Value.{Value}
+use Rattle.seq_plan.specs.Plan.{Plan, Loop, seq, call, make, go, give, plan_of}
+use Rattle.seq_plan.specs.Nodes.{is_truthy, if_true, found, now}
+use Rattle.seq_plan.specs.Lists.{first_and}
+use Rattle.seq_turns.specs.Turning.{Silent, arrives, opens, finds}
+use Rattle.seq_turns.specs.declared.next.Next.{Next}
+use Rattle.seq_turns.proofs.Taking as G
+use Rattle.lazy_rows.specs.Table.{walk_round}
+use Rattle.lazy_rules.specs.Left.{is_lazy_loop, lazily_run, Takes}
+use Rattle.lazy_rules.specs.declared.state.State.{State}
+
+pub takes_from : {p q : Plan ℕ} {r : Next State} → Silent is_lazy_loop walk_round p q → Takes q r → Takes p r
+takes_from s h = G.takes_from lazily_run s h
+
+pub takes_same : {p q : Plan ℕ} {r : Next State} → p ≡ q → Takes p r → Takes q r
+takes_same e h = G.takes_same lazily_run e h
+
+-- a loop after which nothing comes
+pub takes_round : (l : Loop) (xs : List (M.Value ℕ)) {r : Next State} → is_lazy_loop l ≡ true → Takes (plan_of (walk_round l xs)) r → Takes (go l xs give) r
+takes_round l xs o h = G.takes_round lazily_run l xs o h
+
+-- what a callee took
+pub in_ok : {E : Type 0} (r : Result (Next State) E) {p q : Plan ℕ} → ((n : Next State) → Takes q n → Takes p n) → IfOk r (λ n. Takes q n) → IfOk r (λ n. Takes p n)
+in_ok r f h = G.in_ok lazily_run r f h
+
+pub ok_same : {E : Type 0} (r : Result (Next State) E) {p q : Plan ℕ} → q ≡ p → IfOk r (λ n. Takes q n) → IfOk r (λ n. Takes p n)
+ok_same r e h = in_ok r (λ n t. takes_same e t) h
+
+-- a `seq` of what is there
+pub now_goes : {v w x : M.Value ℕ} (k : M.Value ℕ → Plan ℕ) {r : Next State} → v ≡ x → found v ≡ now w → Takes (k w) r → Takes (seq x k) r
+now_goes k e f h = takes_same (ap (λ s. seq s k) e) (takes_from (finds f arrives) h)
+
+pub now_ok : {E : Type 0} {v w x : M.Value ℕ} (k : M.Value ℕ → Plan ℕ) (r : Result (Next State) E) → v ≡ x → found v ≡ now w → IfOk r (λ n. Takes (k w) n) → IfOk r (λ n. Takes (seq x k) n)
+now_ok k r e f h = in_ok r (λ n t. now_goes k e f t) h
+
+-- a `seq` that is asked
+pub asks_goes : {v w x : M.Value ℕ} (k : M.Value ℕ → Plan ℕ) {r : Next State} → v ≡ x → w ≡ v → Takes (seq w k) r → Takes (seq x k) r
+asks_goes k e f h = takes_same (ap (λ s. seq s k) (f ∙ e)) h
+
+-- what goes on after a call
+pub calls_same : {f g : Value} {xs : List Value} {ys : List (M.Value ℕ)} (k : M.Value ℕ → Plan ℕ) {r : Next State} → g ≡ f → plains xs ≡ ys → Takes (call (plain g) (plains xs) k) r → Takes (call (plain f) ys k) r
+calls_same k e q h = takes_same (λ i. call (plain (e i)) (q i) k) h
+
+-- a part that is made of an equal term
+pub makes_same : {t : Term} {x : M.Term ℕ} (kind : Kind) (k : ℕ → Plan ℕ) {r : Next State} → plain_term t ≡ x → Takes (make kind (plain_term t) k) r → Takes (make kind x k) r
+makes_same kind k e h = takes_same (ap (λ y. make kind y k) e) h
+
+pub first_same : {t : Term} (v : M.Value ℕ) (op : Op) (xs : List (M.Value ℕ)) {r : Next State} → plain_term t ≡ record { op = op; args = xs } → Takes (first_and v t.op (plains t.args)) r → Takes (first_and v op xs) r
+first_same v op xs e h = takes_same (ap (λ y. first_and v y.op y.args) e) h
+
+-- a test that was made
+pub if_so : {b : Bool} (y : M.Value ℕ) {p q : Plan ℕ} → b ≡ is_truthy y → b ≡ true → p ≡ if_true y p q
+if_so y e h = rw (sym e ∙ h) refl
+
+pub if_not : {b : Bool} (y : M.Value ℕ) {p q : Plan ℕ} → b ≡ is_truthy y → b ≡ false → q ≡ if_true y p q
+if_not y e h = rw (sym e ∙ h) refl
