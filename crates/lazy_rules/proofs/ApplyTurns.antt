@@ -6,9 +6,10 @@ use Rattle.seq_values.specs.declared.term.Term.{Term}
 use Rattle.seq_values.specs.declared.value.Value.{Value}
 use Rattle.seq_values.specs.declared.words.Op.{Op}
 use Rattle.seq_values.specs.declared.words.Op.TheVariants as O
-use Rattle.seq_plan.specs.Plan.{Plan, seq, call, give, drop_while_from}
+use Rattle.seq_values.specs.declared.words.Kind.TheVariants.{Lazy}
+use Rattle.seq_plan.specs.Plan.{Plan, seq, call, make, give, drop_while_from}
 use Rattle.seq_plan.specs.Nodes.{first_of, rest_of, chunk_of, is_truthy, is_nil, if_nil, call_each}
-use Rattle.seq_plan.specs.Lists.{items_and}
+use Rattle.seq_plan.specs.Lists.{items_and, lazily}
 use Rattle.seq_plan.specs.Cursors.{stands}
 use Rattle.seq_plan.specs.declared.cursor.Cursor.{Cursor}
 use Rattle.seq_turns.specs.declared.next.Next.{Next}
@@ -76,3 +77,13 @@ apply_is (U.Sift K.SomeAnswers) size f c = refl
 apply_is U.TakeWhile size f c = refl
 apply_is U.DropWhile size f c = refl
 apply_is U.Mapcat size f c = refl
+
+-- ## `mapcat`
+
+pub mapcat_makes : (f s y : M.Value ℕ) (t : Term) (r : Next State) → plain_term t ≡ record { op = O.Mapcat; args = f ∷ rest_of s ∷ [] } → Takes (make Lazy (plain_term t) (λ m. lazily O.Concat (y ∷ M.cell m ∷ []))) r → Takes (element_answered U.Mapcat f s y) r
+mapcat_makes f s y t r e h = takes_same (ap (λ x. make Lazy x (λ m. lazily O.Concat (y ∷ M.cell m ∷ []))) e) h
+
+pub two_make : (op : Op) (a b c : M.Value ℕ) (t : Term) (r : Next State) → b ≡ c → plain_term t ≡ record { op = op; args = a ∷ b ∷ [] } → Takes (make Lazy (plain_term t) (λ m. give (M.cell m))) r → Takes (lazily op (a ∷ c ∷ [])) r
+two_make op a b c t r q e h =
+    let p : plain_term t ≡ record { op = op; args = a ∷ c ∷ [] } = e ∙ ap (λ x. record { op = op; args = a ∷ x ∷ [] }) q in
+    takes_same (ap (λ x. make Lazy x (λ m. give (M.cell m))) p) h

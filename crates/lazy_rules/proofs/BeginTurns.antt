@@ -13,7 +13,7 @@ use Rattle.seq_values.specs.declared.words.Op.TheVariants as O
 use Rattle.seq_plan.specs.Plan.{Plan, seq, throw}
 use Rattle.seq_turns.specs.declared.next.Next.{Next}
 use Rattle.lazy_rows.specs.Table.{lazy_term}
-use Rattle.lazy_rows.specs.Terms.{map_all_rule}
+use Rattle.lazy_rows.specs.Terms.{map_all_rule, repeat_rule}
 use Rattle.lazy_rules.specs.Arguments.{number, counted, counted_with}
 use Rattle.lazy_rules.specs.Left.{purpose_op, apply_at, map_all_on, Takes}
 use Rattle.lazy_rules.specs.declared.state.Keeps.{Keeps}
@@ -119,3 +119,6 @@ size_positive args n b t e = sym (ap (takes O.Parts) e) ∙ t
 
 pub map_all_is : (size : ℕ) (args : List Value) (f : Value) (rest : List Value) (p : Plan ℕ) → args ≡ f ∷ rest → p ≡ map_all_rule (plain f) (plains rest) → p ≡ lazy_term size O.MapN (plains args)
 map_all_is size args f rest p e q = q ∙ sym (ap (λ l. lazy_term size O.MapN (plains l)) e)
+
+pub one_begins : (size : ℕ) (args : List Value) (x : Value) → args ≡ x ∷ [] → repeat_rule (plain x) ≡ lazy_term size O.Repeat (plains args)
+one_begins size args x e = sym (ap (λ l. lazy_term size O.Repeat (plains l)) e)

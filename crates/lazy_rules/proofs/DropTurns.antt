@@ -32,8 +32,8 @@ drop_goes n m c r b e h = takes_round drop_from (M.int n ∷ stands c ∷ []) re
 pub drop_counted : {E : Type 0} (n m : ℤ) (s : M.Value ℕ) (r : Result (Next State) E) → m ≡ n → IfOk r (λ x. Takes (left_seq (Q.Drop m) s) x) → IfOk r (λ x. Takes (left_seq (Q.Drop n) s) x)
 drop_counted n m s r e h = ok_same r (ap (λ k. left_seq (Q.Drop k) s) e) h
 
-pub take_counted : {E : Type 0} (n m : ℤ) (s : M.Value ℕ) (r : Result (Next State) E) → m ≡ n → IfOk r (λ x. Takes (left_seq (Q.Take m) s) x) → IfOk r (λ x. Takes (left_seq (Q.Take n) s) x)
-take_counted n m s r e h = ok_same r (ap (λ k. left_seq (Q.Take k) s) e) h
+pub take_left : {E : Type 0} (n m : ℤ) (s : M.Value ℕ) (r : Result (Next State) E) → m ≡ n → IfOk r (λ x. Takes (left_seq (Q.Take m) s) x) → IfOk r (λ x. Takes (left_seq (Q.Take n) s) x)
+take_left n m s r e h = ok_same r (ap (λ k. left_seq (Q.Take k) s) e) h
 
 pub take_first : (n m : ℤ) (c : Cursor) (first rest : M.Value ℕ) (t : Term) (r : Next State) → first ≡ first_of (stands c) → rest ≡ rest_of (stands c) → m ≡ n → plain_term t ≡ record { op = O.Take; args = M.int m ∷ rest ∷ [] } → Takes (first_and first t.op (plains t.args)) r → Takes (left_seq (Q.Take n) (stands c)) r
 take_first n m c first rest t r e1 e2 e3 q h =

@@ -17,6 +17,7 @@ use Rattle.seq_turns.specs.declared.made.Grown.{Grown}
 use Rattle.seq_turns.specs.declared.made.Grown.TheVariants as G
 use Rattle.seq_turns.specs.declared.next.Next.{Next}
 use Rattle.seq_turns.specs.declared.proper.Gathered.{Gathered}
+use Rattle.seq_turns.specs.declared.proper.Proper.{Proper}
 use Rattle.seq_turns.proofs.Taking.{some_cursor}
 use Rattle.lazy_rows.specs.Terms.{parts_on}
 use Rattle.lazy_rules.specs.Left.{left_seq, left_step, group_on, group_round, group_ends, Takes}
@@ -32,6 +33,9 @@ round_visits g c r h = takes_round parts_from (M.int g.size ∷ M.int g.left ∷
 pub parts_goes : (g : Group) (c : Cursor) (r : Next State) → Takes (group_round g (stands c)) r → Takes (left_seq (Q.Parts g) (stands c)) r
 parts_goes g c r h = rw (some_cursor c) h
 
+pub next_goes : (g : Group) (rest : Proper) (c : Cursor) (r : Next State) → Takes (group_round g (stands c)) r → Takes (left_seq (Q.PartsNext g rest) (stands c)) r
+next_goes g rest c r h = rw (some_cursor c) h
+
 -- more of the same node comes next
 pub goes_within : (g : Group) (c : Cursor) (r : Next State) → Takes (group_round g (stands c)) r → Takes (seq (stands c) (λ t. if_nil t (group_ends g (stands c)) (group_round g t))) r
 goes_within g c r h = now_goes (λ t. if_nil t (group_ends g (stands c)) (group_round g t)) refl (cursor_found c) (rw (some_cursor c) h)
@@ -40,13 +44,13 @@ goes_within g c r h = now_goes (λ t. if_nil t (group_ends g (stands c)) (group_
 pub step_goes : (g : Group) (c : Cursor) (first rest : M.Value ℕ) (all : Gathered) (n m : ℤ) (r : Next State) → first ≡ first_of (stands c) → rest ≡ rest_of (stands c) → Grows (with_members (plains g.taken.items.items ++ first ∷ [])) (G.All all) → n ≡ g.size → m ≡ g.left -ℤ pos 1 → Takes (group_on n m (plains all.items.items) rest) r → Takes (left_step (T.Parts g c)) r
 step_goes g c first rest all n m r e1 e2 q en em h =
     let k : List (M.Value ℕ) → Plan ℕ = λ ys. parts_on g.size (g.left -ℤ pos 1) ys (stands c) in
-    let p : with_members (plains g.taken.items.items ++ first_of (stands c) ∷ []) k ≡ k (plains all.items.items) = ap (λ x. with_members (plains g.taken.items.items ++ x ∷ []) k) (sym e1) ∙ q k in
+    let p : with_members (plains g.taken.items.items ++ first_of (stands c) ∷ []) k ≡ k (plains all.items.items) = ap (λ x. with_members (plains g.taken.items.items ++ x ∷ []) k) (sym e1) ∙ q.goes k in
     takes_same ((λ i. group_on (en i) (em i) (plains all.items.items) (e2 i)) ∙ sym p) h
 
 pub step_throws : (g : Group) (c : Cursor) (first : M.Value ℕ) (r : Next State) → first ≡ first_of (stands c) → Grows (with_members (plains g.taken.items.items ++ first ∷ [])) G.TooMany → Takes (throw Overflow) r → Takes (left_step (T.Parts g c)) r
 step_throws g c first r e q h =
     let k : List (M.Value ℕ) → Plan ℕ = λ ys. parts_on g.size (g.left -ℤ pos 1) ys (stands c) in
-    let p : with_members (plains g.taken.items.items ++ first_of (stands c) ∷ []) k ≡ throw Overflow = ap (λ x. with_members (plains g.taken.items.items ++ x ∷ []) k) (sym e) ∙ q k in
+    let p : with_members (plains g.taken.items.items ++ first_of (stands c) ∷ []) k ≡ throw Overflow = ap (λ x. with_members (plains g.taken.items.items ++ x ∷ []) k) (sym e) ∙ q.goes k in
     takes_same (sym p) h
 
 pub on_full : (n m : ℤ) (xs : List (M.Value ℕ)) (rest : M.Value ℕ) (r : Next State) → int_le m (pos 0) ≡ true → Takes (first_and (list_of xs) O.Parts (M.int n ∷ rest ∷ [])) r → Takes (group_on n m xs rest) r

@@ -1,6 +1,6 @@
 pub mod Taking
 pub mod MadeTerms
-pub mod Arguments
+pub mod ArgumentLemmas
 pub mod ApplyTurns
 pub mod SiftTurns
 pub mod DropTurns

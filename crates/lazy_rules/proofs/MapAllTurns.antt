@@ -93,3 +93,35 @@ pub all_called : (f called : Value) (firsts : List Value) (fs rs : List (M.Value
 all_called f called firsts fs rs rests t r e1 e2 e3 q h =
     let p : plain_term t ≡ record { op = O.MapN; args = plain f ∷ rs } = q ∙ ap (λ l. record { op = O.MapN; args = l }) e3 in
     takes_same (λ i. call (plain (e1 i)) (e2 i) (λ y. first_and y (p i).op (p i).args)) h
+
+-- ## The lists of firsts and rests
+
+pub one_more_first : (fs more : List (M.Value ℕ)) (v w : M.Value ℕ) (rest whole : List (M.Value ℕ)) → more ≡ fs ++ v ∷ [] → v ≡ w → fs ++ w ∷ rest ≡ whole → more ++ rest ≡ whole
+one_more_first fs more v w rest whole m e h = ap (λ l. l ++ rest) m ∙ append_assoc fs (v ∷ []) rest ∙ ap (λ x. fs ++ x ∷ rest) e ∙ h
+
+-- the last seq goes over to the rests, which stand the other way round
+pub one_more_rest : (seqs left : List Seen) (w : Seen) (rs more : List (M.Value ℕ)) (v : M.Value ℕ) (whole : List (M.Value ℕ)) → seqs ≡ left ++ w ∷ [] → more ≡ rs ++ v ∷ [] → v ≡ rest_of (seen w) → map rest_of (seens seqs) ++ reverse rs ≡ whole → map rest_of (seens left) ++ reverse more ≡ whole
+one_more_rest seqs left w rs more v whole s m e h =
+    let a : map rest_of (seens seqs) ≡ map rest_of (seens left) ++ rest_of (seen w) ∷ [] = ap (λ l. map rest_of (seens l)) s ∙ ap (map rest_of) (map-append seen left (w ∷ [])) ∙ map-append rest_of (seens left) (seen w ∷ []) in
+    let b : reverse more ≡ v ∷ reverse rs = ap reverse m ∙ reverse-append rs (v ∷ []) in
+    ap (λ l. map rest_of (seens left) ++ l) (b ∙ ap (λ x. x ∷ reverse rs) e)
+    ∙ sym (append_assoc (map rest_of (seens left)) (rest_of (seen w) ∷ []) (reverse rs))
+    ∙ sym (ap (λ l. l ++ reverse rs) a)
+    ∙ h
+
+plains_join : (xs ys : List Value) → plains (xs ++ ys) ≡ plains xs ++ plains ys
+plains_join [] ys = refl
+plains_join (x ∷ xs) ys = ap (λ zs. plain x ∷ zs) (plains_join xs ys)
+
+plains_back : (xs : List Value) → plains (reverse xs) ≡ reverse (plains xs)
+plains_back [] = refl
+plains_back (x ∷ xs) =
+    ap plains (reverse-append (x ∷ []) xs)
+    ∙ plains_join (reverse xs) (x ∷ [])
+    ∙ ap (λ ys. ys ++ plain x ∷ []) (plains_back xs)
+    ∙ sym (reverse-append (plain x ∷ []) (plains xs))
+
+pub turned_rests : (rs all turned items : List Value) (f : Value) (left : List Seen) (whole : List (M.Value ℕ)) → left ≡ [] → map rest_of (seens left) ++ reverse (plains rs) ≡ whole → all ≡ rs ++ f ∷ [] → turned ≡ reverse all → items ≡ turned → plains items ≡ plain f ∷ whole
+turned_rests rs all turned items f left whole l h a t i =
+    let w : reverse (plains rs) ≡ whole = sym (ap (λ x. map rest_of (seens x) ++ reverse (plains rs)) l) ∙ h in
+    ap plains (i ∙ t) ∙ plains_back all ∙ ap (λ x. reverse (plains x)) a ∙ ap reverse (plains_join rs (f ∷ [])) ∙ reverse-append (plains rs) (plain f ∷ []) ∙ ap (λ x. plain f ∷ x) w

@@ -62,3 +62,6 @@ if_so y e h = rw (sym e ∙ h) refl
 
 pub if_not : {b : Bool} (y : M.Value ℕ) {p q : Plan ℕ} → b ≡ is_truthy y → b ≡ false → q ≡ if_true y p q
 if_not y e h = rw (sym e ∙ h) refl
+
+pub gives_same : {v w : M.Value ℕ} {r : Next State} → v ≡ w → Takes (give v) r → Takes (give w) r
+gives_same e h = takes_same (ap give e) h

@@ -1,6 +1,7 @@
 -- What the calls of words make, and give.
 use Rattle.std.proofs.Common.{◌≡◌, ◌≢◌, ℕ, ◌+◌, ◌<◌, ◌≤◌, ℤ, pos, ◌<ℤ◌, int_lt, cond, true, false, if◌then◌else◌, List, [], ◌∷◌, map, length, drop, Some, None, refl, ap, sym, ◌∙◌, arith, rules}
 use Rattle.std.specs.Prelude.{IsTrue}
+use Rattle.std.proofs.lemmas.Int.{ints}
 use Rattle.std.proofs.lemmas.List.{length-map}
 use Rattle.seq_base.specs.declared.thrown.Thrown.{Thrown}
 use Rattle.seq_base.specs.declared.thrown.Thrown.TheVariants.{Arity, BadType, Index}
@@ -32,7 +33,7 @@ use Rattle.lazy_rows.specs.Calls.{give_stage, with_function, map_call, remove_ca
 use Rattle.lazy_rules.specs.Arguments.{number, counted, counted_with, first_number}
 use Rattle.lazy_rules.specs.Left.{Takes}
 use Rattle.lazy_rules.specs.declared.state.State.{State}
-use Rattle.lazy_rules.proofs.Arguments.{is_number}
+use Rattle.lazy_rules.proofs.ArgumentLemmas.{is_number}
 use Rattle.lazy_rules.proofs.Taking.{takes_same}
 
 -- ## A function and a collection
@@ -110,12 +111,12 @@ complement_binds bound p e = ap (λ l. binds T.Complement (map sight_of l)) e
 pub not_throws : (p c : M.Value ℕ) (bound : List Value) (why : Thrown) (r : Next State) → plains bound ≡ p ∷ [] → Makes (with_value (M.function T.Complement (M.values (plains bound)))) (D.Thrown why) → Takes (throw why) r → Takes (remove_call (p ∷ c ∷ [])) r
 not_throws p c bound why r e m h =
     let k : M.Value ℕ → Plan ℕ = λ q. lazily O.Filter (q ∷ c ∷ []) in
-    takes_same (sym (m k) ∙ ap (λ l. with_value (M.function T.Complement (M.values l)) k) e) h
+    takes_same (sym (m.goes k) ∙ ap (λ l. with_value (M.function T.Complement (M.values l)) k) e) h
 
 pub not_makes : (p c : M.Value ℕ) (bound : List Value) (q : Proper) (t : Term) (r : Next State) → plains bound ≡ p ∷ [] → Makes (with_value (M.function T.Complement (M.values (plains bound)))) (D.Value q) → plain_term t ≡ record { op = O.Filter; args = plain q.value ∷ c ∷ [] } → Takes (make Lazy (plain_term t) (λ m. give (M.cell m))) r → Takes (remove_call (p ∷ c ∷ [])) r
 not_makes p c bound q t r e m d h =
     let k : M.Value ℕ → Plan ℕ = λ f. lazily O.Filter (f ∷ c ∷ []) in
-    takes_same (sym (m k) ∙ ap (λ l. with_value (M.function T.Complement (M.values l)) k) e) (takes_same (ap (λ x. make Lazy x (λ i. give (M.cell i))) d) h)
+    takes_same (sym (m.goes k) ∙ ap (λ l. with_value (M.function T.Complement (M.values l)) k) e) (takes_same (ap (λ x. make Lazy x (λ i. give (M.cell i))) d) h)
 
 -- ## A count and a collection
 
@@ -299,6 +300,15 @@ parts_cell (x ∷ y ∷ []) n r l e b h =
     let p : lazily O.Parts (plain x ∷ plain y ∷ []) ≡ partition_call (plain x ∷ plain y ∷ []) = rw (i, b) refl in
     takes_same p h
 parts_cell (x ∷ y ∷ z ∷ zs) n r l e b h = absurd (omega (arith, l))
+
+above_zero : (n : ℤ) → int_lt n (pos 1) ≡ false → int_lt (pos 0) n ≡ true
+above_zero n h = grind (arith, ints)
+
+pub size_binds : (args : List Value) (n : ℤ) → length args ≡ 1 → int_lt n (pos 1) ≡ false → ((x : Value) (xs : List Value) → args ≡ x ∷ xs → sight_of x ≡ an_int n) → IsTrue (binds (T.Xf X.PartitionAll) (map sight_of args))
+size_binds args n l b s = counted_binds X.PartitionAll args n l s (above_zero n b)
+
+pub size_takes : (args : List Value) (n : ℤ) → length args ≡ 2 → int_lt n (pos 1) ≡ false → ((x : Value) (xs : List Value) → args ≡ x ∷ xs → sight_of x ≡ an_int n) → takes O.Parts (map sight_of args) ≡ true
+size_takes args n l b s = counted_takes O.Parts args n l s (λ a. above_zero n b)
 
 -- ## `iterate`
 
@@ -534,3 +544,9 @@ pub cycle_makes : (args : List Value) (x y : Value) (t : Term) (r : Next State) 
 cycle_makes args x y t r e q d h =
     let p : plain_term t ≡ record { op = O.Cycle; args = plain x ∷ plain x ∷ [] } = d ∙ ap (λ z. record { op = O.Cycle; args = plain x ∷ plain z ∷ [] }) q in
     takes_same (ap (λ w. make Lazy w (λ m. give (M.cell m))) p ∙ sym (ap (λ l. cycle_call (plains l)) e)) h
+
+abbrev pub range_plan : List (M.Value ℕ) → Plan ℕ
+range_plan xs = range_call xs
+
+abbrev pub repeat_plan : List (M.Value ℕ) → Plan ℕ
+repeat_plan xs = repeat_call xs

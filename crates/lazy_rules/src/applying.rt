@@ -99,7 +99,8 @@ fn sift_place(
     requires { 0 < chunk }
     ensures { IfOk result (λ r. Takes (sift_on (sift_op keeps) (kept_of keeps) (plain function.value) (stands place) (chunk_of chunk (stands place))) r) }
 {
-    match chunk_of_cursor(alloc, place, chunk)? {
+    let chunked = chunk_of_cursor(alloc, place, chunk)?;
+    match chunked {
         Chunked::Single(place) => call_first(
             alloc,
             Applying {
@@ -123,6 +124,7 @@ fn sift_place(
     }
 }
 
+#[tactic(auto, using(crate::proofs::ApplyTurns::element_calls))]
 /// The function is called with the first element.
 fn call_first(alloc: Global, applying: Applying, place: Cursor) -> Result<Next<State>, NoMemory>
     ensures { IfOk result (λ r. Takes (calls_first applying.purpose (plain applying.function.value) (stands place)) r) }
@@ -155,6 +157,7 @@ pub(crate) fn element_answer(
     }
 }
 
+#[tactic(auto, using(crate::proofs::ApplyTurns::single_ends, crate::proofs::MadeTerms::sift_takes))]
 /// Of an element that stands alone: what is kept of it before the part for the rest, or the cell of that part.
 fn single_answer(
     alloc: Global,
@@ -237,6 +240,7 @@ fn drop_while_goes(
     }
 }
 
+#[tactic(auto, using(crate::proofs::Taking::gives_same))]
 /// Ends with the node.
 pub(crate) fn give_node(alloc: Global, place: Cursor) -> Result<Next<State>, NoMemory>
     ensures { IfOk result (λ r. Takes (give (stands place)) r) }
@@ -245,6 +249,7 @@ pub(crate) fn give_node(alloc: Global, place: Cursor) -> Result<Next<State>, NoM
     Ok(gives(node))
 }
 
+#[tactic(auto, using(crate::proofs::ApplyTurns::mapcat_makes))]
 fn mapcat_answer(
     alloc: Global,
     function: Proper,
@@ -257,6 +262,7 @@ fn mapcat_answer(
     Ok(makes(AtPart::Mapcat(answer), term))
 }
 
+#[tactic(auto, using(crate::proofs::ApplyTurns::two_make))]
 /// The part for the rest was made: the one that begins with the answer's elements comes next.
 pub(crate) fn mapcat_made(
     alloc: Global,

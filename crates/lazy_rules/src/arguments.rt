@@ -62,12 +62,14 @@ pub(crate) fn value_at(values: &ProperList, at: usize) -> Result<Proper, NoMemor
     requires { at < length values.now.items }
     ensures { IfOk result (λ v. drop at values.now.items ≡ v.value ∷ drop (at + 1) values.now.items) }
 {
-    match values.get(at)? {
+    let found = values.get(at)?;
+    match found {
         Some(value) => Ok(value),
         None => unreachable!(),
     }
 }
 
+#[tactic(auto, using(crate::proofs::ArgumentLemmas::one_value))]
 /// The only argument, and `None` exactly where there isn't one alone.
 fn single(args: &ProperList) -> Result<Option<Proper>, NoMemory>
     ensures { IfOk result (λ x. MatchOption x (length args.now.items ≢ 1) (λ v. args.now.items ≡ v.value ∷ [])) }
@@ -95,6 +97,7 @@ pub(crate) struct Pair {
     pub(crate) second: Proper,
 }
 
+#[tactic(auto, using(crate::proofs::ArgumentLemmas::two_values))]
 /// The only two arguments, and `None` exactly where there aren't two.
 fn both(args: &ProperList) -> Result<Option<Pair>, NoMemory>
     ensures { IfOk result (λ x. MatchOption x (length args.now.items ≢ 2) (λ p. args.now.items ≡ p.first.value ∷ p.second.value ∷ [])) }
@@ -128,7 +131,8 @@ pub(crate) fn counted_of(args: ProperList) -> Result<Option<Counted>, NoMemory>
     ensures same { IfOk result (λ x. MatchOption x (counted (plains args.items) ≡ None) (λ p. plains args.items ≡ M.int p.count ∷ plain p.source.value ∷ [])) }
     ensures sights { IfOk result (λ x. IfSome x (λ p. map sight_of args.items ≡ an_int p.count ∷ sight_of p.source.value ∷ [])) }
 {
-    match pair_of(args)? {
+    let pair = pair_of(args)?;
+    match pair {
         None => Ok(None),
         Some(pair) => Ok(count_in(pair)),
     }

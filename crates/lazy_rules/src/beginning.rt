@@ -18,7 +18,7 @@ use crate::state::{Applying, AtSeq, Group, Keeps, Purpose, State, Work};
 use crate::turns::start;
 use crate::ways::{gives_nil, let_go, throws};
 use seq_base::Thrown;
-use seq_turns::{Gathered, Next, Proper, ProperList};
+use seq_turns::{Gathered, Next, ProperList};
 use seq_values::{Op, Term};
 use seq_vector::NoMemory;
 use std::alloc::Global;
@@ -84,7 +84,8 @@ fn apply_begins(
     requires { 0 < chunk }
     ensures { IfOk result (λ r. Takes (lazy_term chunk (purpose_op purpose) (plains args.items)) r) }
 {
-    match pair_of(args)? {
+    let pair = pair_of(args)?;
+    match pair {
         None => Ok(throws(Thrown::BadType)),
         Some(pair) => {
             let Pair { first, second } = pair;
@@ -113,7 +114,8 @@ fn map_all_begins(alloc: Global, args: ProperList, chunk: u32) -> Result<Next<St
 fn take_begins(alloc: Global, args: ProperList, chunk: u32) -> Result<Next<State>, NoMemory>
     ensures { IfOk result (λ r. Takes (lazy_term chunk O.Take (plains args.items)) r) }
 {
-    match counted_of(args)? {
+    let counted = counted_of(args)?;
+    match counted {
         None => Ok(throws(Thrown::BadType)),
         Some(counted) => take_counted(alloc, counted),
     }
@@ -134,7 +136,8 @@ fn take_counted(alloc: Global, counted: Counted) -> Result<Next<State>, NoMemory
 fn drop_begins(alloc: Global, args: ProperList, chunk: u32) -> Result<Next<State>, NoMemory>
     ensures { IfOk result (λ r. Takes (lazy_term chunk O.Drop (plains args.items)) r) }
 {
-    match counted_of(args)? {
+    let counted = counted_of(args)?;
+    match counted {
         None => Ok(throws(Thrown::BadType)),
         Some(counted) => {
             let Counted { count, source } = counted;
@@ -146,7 +149,8 @@ fn drop_begins(alloc: Global, args: ProperList, chunk: u32) -> Result<Next<State
 fn next_begins(alloc: Global, args: ProperList, chunk: u32) -> Result<Next<State>, NoMemory>
     ensures { IfOk result (λ r. Takes (lazy_term chunk O.Next (plains args.items)) r) }
 {
-    match pair_of(args)? {
+    let pair = pair_of(args)?;
+    match pair {
         None => Ok(throws(Thrown::BadType)),
         Some(pair) => {
             let Pair { first, second } = pair;
@@ -158,7 +162,8 @@ fn next_begins(alloc: Global, args: ProperList, chunk: u32) -> Result<Next<State
 fn repeat_begins(alloc: Global, args: ProperList, chunk: u32) -> Result<Next<State>, NoMemory>
     ensures { IfOk result (λ r. Takes (lazy_term chunk O.Repeat (plains args.items)) r) }
 {
-    match only(args)? {
+    let value = only(args)?;
+    match value {
         None => Ok(throws(Thrown::BadType)),
         Some(value) => repeat_one(alloc, value),
     }
@@ -167,7 +172,8 @@ fn repeat_begins(alloc: Global, args: ProperList, chunk: u32) -> Result<Next<Sta
 fn cycle_begins(alloc: Global, args: ProperList, chunk: u32) -> Result<Next<State>, NoMemory>
     ensures { IfOk result (λ r. Takes (lazy_term chunk O.Cycle (plains args.items)) r) }
 {
-    match pair_of(args)? {
+    let pair = pair_of(args)?;
+    match pair {
         None => Ok(throws(Thrown::BadType)),
         Some(pair) => {
             let Pair { first, second } = pair;
@@ -180,7 +186,8 @@ fn parts_begins(alloc: Global, args: ProperList, chunk: u32) -> Result<Next<Stat
     requires { takes O.Parts (map sight_of args.items) ≡ true }
     ensures { IfOk result (λ r. Takes (lazy_term chunk O.Parts (plains args.items)) r) }
 {
-    match counted_of(args)? {
+    let counted = counted_of(args)?;
+    match counted {
         None => Ok(throws(Thrown::BadType)),
         Some(counted) => {
             let Counted { count, source } = counted;

@@ -1,5 +1,5 @@
 //! What `map`, `filter` and `keep` keep.
-ghost use Rattle.std.specs.Prelude.{◌≡◌, ◌<◌, ◌≤◌, ◌+◌, ◌++◌, length, drop, IfOk, IfSome};
+ghost use Rattle.std.specs.Prelude.{◌≡◌, ℕ, ◌<◌, ◌≤◌, ◌+◌, [], ◌∷◌, ◌++◌, if◌then◌else◌, length, drop, IfOk};
 ghost use Rattle.lazy_rules.specs.Arguments.{chosen, listed};
 ghost use Rattle.lazy_rules.specs.Left.{kept_of, kept_in, sift_op};
 ghost use Rattle.seq_plan.specs.Cursors.{stands};
@@ -12,7 +12,7 @@ use crate::state::Keeps;
 use crate::ways::let_go;
 use seq_plan::Cursor;
 use seq_turns::{Gathered, Proper, ProperList, first_of_cursor};
-use seq_values::Op;
+use seq_values::{Op, Value};
 use seq_vector::NoMemory;
 
 /// What is kept of an element and of the function's answer.
@@ -35,6 +35,7 @@ impl Keeps {
         }
     }
 
+    #[tactic(auto, using(crate::proofs::SiftTurns::elements_chosen, crate::proofs::SiftTurns::answers_chosen))]
     /// What is kept where the function gave this.
     fn choose(self, answer: &Proper) -> Chosen
         ensures { (x : M.Value ℕ) → kept_of self x (plain answer.now.value) ≡ chosen result x (plain answer.now.value) }
@@ -94,6 +95,7 @@ fn first_for(place: &Cursor, answer: Proper) -> Result<Option<Proper>, NoMemory>
     Ok(Some(first))
 }
 
+#[tactic(auto, using(crate::proofs::SiftTurns::kept_answer, crate::proofs::SiftTurns::kept_element, crate::proofs::SiftTurns::kept_neither))]
 /// What was kept, and what is kept of the element at a place of a chunk.
 pub(crate) fn more_kept(
     keeps: Keeps,
@@ -107,8 +109,14 @@ pub(crate) fn more_kept(
     ensures few { IfOk result (λ all. length all.items.items ≤ at + 1) }
 {
     match keeps.choose(&answer) {
-        Chosen::Answer => kept.and(answer),
-        Chosen::Element => and_element(kept, items, at, answer),
+        Chosen::Answer => {
+            let all = kept.and(answer)?;
+            Ok(all)
+        }
+        Chosen::Element => {
+            let all = and_element(kept, items, at, answer)?;
+            Ok(all)
+        }
         Chosen::Neither => {
             let_go(answer);
             Ok(kept)
@@ -129,5 +137,6 @@ fn and_element(
 {
     let_go(answer);
     let element = value_at(items, at)?;
-    kept.and(element)
+    let all = kept.and(element)?;
+    Ok(all)
 }

@@ -37,7 +37,7 @@ pub(crate) enum Leading {
 }
 
 /// Looks for the first collection from a place on that has elements or has to be asked.
-fn leading(args: &ProperList, at: usize) -> Result<Leading, NoMemory>
+fn find_leading(args: &ProperList, at: usize) -> Result<Leading, NoMemory>
     requires { at ≤ length args.now.items }
     ensures plan { IfOk result (λ l. (size : ℕ) → leads size args.now.items at l) }
     ensures place { IfOk result (λ l. IsLeading args.now.items l) }
@@ -81,7 +81,8 @@ pub(crate) fn concat_from(
     requires positive { 0 < chunk }
     ensures { IfOk result (λ r. Takes (concat_rule chunk (plains (drop at args.items))) r) }
 {
-    match leading(&args, at)? {
+    let leading = find_leading(&args, at)?;
+    match leading {
         Leading::Nothing => {
             let_go(args);
             Ok(gives_nil())
@@ -125,7 +126,8 @@ fn concat_node(
     requires positive { 0 < chunk }
     ensures { IfOk result (λ r. Takes (concat_on (stands place) (plains (drop at args.items)) (chunk_of chunk (stands place))) r) }
 {
-    match chunk_of_cursor(alloc, place, chunk)? {
+    let chunked = chunk_of_cursor(alloc, place, chunk)?;
+    match chunked {
         Chunked::Single(place) => concat_single(alloc, args, at, place),
         Chunked::Whole { items, rest } => {
             let term = concat_term(alloc, rest, args, at)?;
@@ -134,6 +136,7 @@ fn concat_node(
     }
 }
 
+#[tactic(auto, using(crate::proofs::ConcatTurns::single_first))]
 fn concat_single(
     alloc: Global,
     args: ProperList,

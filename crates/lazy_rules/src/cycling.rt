@@ -55,6 +55,7 @@ pub(crate) fn cycle_again_at(
     }
 }
 
+#[tactic(auto, using(crate::proofs::CycleTurns::next_calls))]
 /// The function is called with the element before.
 pub(crate) fn next_one(
     alloc: Global,
@@ -68,6 +69,7 @@ pub(crate) fn next_one(
     Ok(calls(AtValue::Next { function }, called, args))
 }
 
+#[tactic(auto, using(crate::proofs::CycleTurns::first_of_pair))]
 /// The function answered.
 pub(crate) fn next_answer(
     alloc: Global,
@@ -81,6 +83,7 @@ pub(crate) fn next_answer(
     Ok(first_then(answer, term))
 }
 
+#[tactic(auto, using(crate::proofs::CycleTurns::first_of_list))]
 /// The value, and the part for more of it.
 pub(crate) fn repeat_one(alloc: Global, value: Proper) -> Result<Next<State>, NoMemory>
     ensures { IfOk result (λ r. Takes (repeat_rule (plain value.value)) r) }
@@ -91,6 +94,7 @@ pub(crate) fn repeat_one(alloc: Global, value: Proper) -> Result<Next<State>, No
     Ok(first_then(value, term))
 }
 
+#[tactic(auto, using(crate::proofs::ApplyTurns::two_make))]
 /// The part that repeats a value was made: so many are taken of it.
 pub(crate) fn repeat_made(alloc: Global, count: i64, id: CellId) -> Result<Next<State>, NoMemory>
     ensures { IfOk result (λ r. Takes (left_part (P.TakeOf count) id) r) }

@@ -26,6 +26,7 @@ pub(crate) fn take_at(alloc: Global, left: i64, what: Seen) -> Result<Next<State
     }
 }
 
+#[tactic(auto, using(crate::proofs::DropTurns::take_first))]
 fn take_place(alloc: Global, left: i64, place: Cursor) -> Result<Next<State>, NoMemory>
     ensures { IfOk result (λ r. Takes (left_seq (Q.Take left) (stands place)) r) }
 {

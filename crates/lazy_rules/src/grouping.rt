@@ -24,6 +24,7 @@ use seq_values::Op;
 use seq_vector::NoMemory;
 use std::alloc::Global;
 
+#[tactic(auto, using(crate::proofs::GroupTurns::parts_goes))]
 /// The seq of the collection is there.
 pub(crate) fn parts_at(group: Group, what: Seen) -> Next<State>
     ensures { Takes (left_seq (Q.Parts group) (seen what)) result }
@@ -55,7 +56,8 @@ pub(crate) fn parts_step(
 {
     let Group { size, left, taken } = group;
     let Split { first, rest } = split_cursor(place)?;
-    match taken.grown(first)? {
+    let grown = taken.grown(first)?;
+    match grown {
         Grown::All(taken) => group_goes(alloc, size, left - 1, taken, rest),
         Grown::TooMany => {
             let_go(rest);
@@ -105,6 +107,7 @@ fn group_beyond(alloc: Global, group: Group, value: Proper) -> Result<Next<State
     }
 }
 
+#[tactic(auto, using(crate::proofs::GroupTurns::next_goes))]
 /// The seq of what comes after the last element is there.
 pub(crate) fn parts_next_at(
     alloc: Global,
@@ -131,6 +134,7 @@ fn group_short(alloc: Global, group: Group, rest: Proper) -> Result<Next<State>,
     group_full(alloc, size, taken, rest)
 }
 
+#[tactic(auto, using(crate::proofs::GroupTurns::full_makes))]
 /// The part for the next group is made, before which the list of this one is to stand.
 fn group_full(
     alloc: Global,

@@ -97,6 +97,7 @@ pub(crate) fn rest_term(
     Ok(term)
 }
 
+#[tactic(auto, using(crate::proofs::CycleTurns::first_of_pair))]
 /// Makes the part of the operation on a function, or a whole, and what comes after the first element of a node; that element is to stand before it.
 pub(crate) fn first_and_rest(
     alloc: Global,

@@ -14,7 +14,6 @@ ghost use Rattle.seq_values.specs.WellFormed.{sight_of};
 ghost use Rattle.seq_values.specs.WellFormedTerms.{takes};
 ghost use Rattle.seq_values.specs.declared.words.Op.TheVariants as O;
 
-use crate::arguments::value_at;
 use crate::made_terms::term_of;
 use crate::state::{AtSeq, AtValue, Gathering, State};
 use crate::ways::{calls, gives_nil, let_go, seeks};
@@ -50,7 +49,8 @@ pub(crate) fn gather(
     requires fit { takes O.MapN (map sight_of args.items) ≡ true }
     ensures { IfOk result (λ r. Takes (seq_each (seens seqs.items) (plains (drop at args.items)) (map_all_on (plain function.value))) r) }
 {
-    match args.get(at)? {
+    let value = args.get(at)?;
+    match value {
         None => all_there(alloc, function, seqs, args),
         Some(value) => match seek(value) {
             Sought::Now(what) => gathered(
@@ -125,6 +125,7 @@ fn calls_all(alloc: Global, function: Proper, seqs: Vec<Seen>) -> Result<Next<St
     call_all(alloc, function, firsts, seqs)
 }
 
+#[tactic(auto, using(crate::proofs::MapAllTurns::all_called, crate::proofs::MadeTerms::takes_several))]
 fn call_all(
     alloc: Global,
     function: Proper,

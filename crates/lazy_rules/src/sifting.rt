@@ -24,7 +24,8 @@ pub(crate) fn sift_chunk(
     requires { (length kept.items.items ≤ at) × (at ≤ length items.items) }
     ensures { IfOk result (λ r. Takes (sift_left sieve.keeps (plain sieve.function.value) (plains kept.items.items) (plains (drop at items.items)) (plain sieve.rest.value)) r) }
 {
-    match items.get(at)? {
+    let element = items.get(at)?;
+    match element {
         None => {
             let_go(items);
             chunk_done(alloc, sieve, kept)
@@ -33,6 +34,7 @@ pub(crate) fn sift_chunk(
     }
 }
 
+#[tactic(auto, using(crate::proofs::SiftTurns::items_make, crate::proofs::MadeTerms::sift_takes))]
 /// The part for what comes after the chunk is made.
 fn chunk_done(alloc: Global, sieve: Sieve, kept: Gathered) -> Result<Next<State>, NoMemory>
     ensures { IfOk result (λ r. Takes (items_and (plains kept.items.items) (sift_op sieve.keeps) (plain sieve.function.value ∷ plain sieve.rest.value ∷ [])) r) }
@@ -47,6 +49,7 @@ fn chunk_done(alloc: Global, sieve: Sieve, kept: Gathered) -> Result<Next<State>
     Ok(makes(AtPart::Items(items), term))
 }
 
+#[tactic(auto, using(crate::proofs::SiftTurns::item_calls))]
 fn call_item(
     alloc: Global,
     sieve: Sieve,

@@ -118,6 +118,7 @@ fn gives_stage(kind: XfKind, args: ProperList) -> Next<State>
     gives_function(State::Over, Target::Xf(kind), args)
 }
 
+#[tactic(auto, using(crate::proofs::WordTurns::function_stage, crate::proofs::WordTurns::function_cell, crate::proofs::WordTurns::function_arity, crate::proofs::WordTurns::stage_binds, crate::proofs::WordTurns::cell_takes))]
 /// `filter`, `keep`, `take-while`, `drop-while`, `mapcat`
 fn function_call(op: Op, kind: XfKind, args: ProperList) -> Next<State>
     requires takes { (a b : Sight) → takes op (a ∷ b ∷ []) ≡ true }
@@ -131,6 +132,7 @@ fn function_call(op: Op, kind: XfKind, args: ProperList) -> Next<State>
     }
 }
 
+#[tactic(auto, using(crate::proofs::WordTurns::map_several, crate::proofs::WordTurns::map_other, crate::proofs::MadeTerms::takes_several))]
 /// `map`
 fn map_call(args: ProperList) -> Next<State>
     ensures { Takes (map_call (plains args.items)) result }
@@ -143,6 +145,7 @@ fn map_call(args: ProperList) -> Next<State>
     }
 }
 
+#[tactic(auto, using(crate::proofs::WordTurns::remove_stage, crate::proofs::WordTurns::remove_binds, crate::proofs::WordTurns::remove_arity))]
 /// `remove`
 fn remove_call(alloc: Global, args: ProperList) -> Result<Next<State>, NoMemory>
     ensures { IfOk result (λ r. Takes (remove_call (plains args.items)) r) }
@@ -150,12 +153,14 @@ fn remove_call(alloc: Global, args: ProperList) -> Result<Next<State>, NoMemory>
     if args.len() == 1 {
         return Ok(gives_stage(XfKind::Remove, args));
     }
-    match pair_of(args)? {
+    let pair = pair_of(args)?;
+    match pair {
         None => Ok(throws(Thrown::Arity)),
         Some(pair) => filter_not(alloc, pair),
     }
 }
 
+#[tactic(auto, using(crate::proofs::WordTurns::not_throws, crate::proofs::WordTurns::not_makes, crate::proofs::WordTurns::complement_binds))]
 /// The elements of which the first isn't true.
 fn filter_not(alloc: Global, pair: Pair) -> Result<Next<State>, NoMemory>
     ensures { IfOk result (λ r. Takes (remove_call (plain pair.first.value ∷ plain pair.second.value ∷ [])) r) }
@@ -185,6 +190,7 @@ fn first_number(args: &ProperList) -> Option<i64>
     }
 }
 
+#[tactic(auto, using(crate::proofs::WordTurns::count_stage, crate::proofs::WordTurns::count_cell, crate::proofs::WordTurns::count_wrong_kind, crate::proofs::WordTurns::count_arity, crate::proofs::WordTurns::counted_binds, crate::proofs::WordTurns::counted_takes))]
 /// `take`, `drop`
 fn count_call(op: Op, kind: XfKind, args: ProperList) -> Next<State>
     requires takes { (n : ℤ) (a : Sight) → takes op (an_int n ∷ a ∷ []) ≡ true }
@@ -204,6 +210,7 @@ fn count_call(op: Op, kind: XfKind, args: ProperList) -> Next<State>
     }
 }
 
+#[tactic(auto, using(crate::proofs::WordTurns::parts_wrong_kind, crate::proofs::WordTurns::parts_arity))]
 /// `partition-all`
 fn partition_call(args: ProperList) -> Next<State>
     ensures { Takes (partition_call (plains args.items)) result }
@@ -229,6 +236,7 @@ fn wrong_size(args: ProperList) -> Next<State>
     throws(Thrown::Index)
 }
 
+#[tactic(auto, using(crate::proofs::WordTurns::parts_wrong_size, crate::proofs::WordTurns::parts_stage, crate::proofs::WordTurns::size_binds))]
 fn partition_stage(size: i64, args: ProperList) -> Next<State>
     requires one { length args.items ≡ 1 }
     requires size { first_number (plains args.items) ≡ Some size }
@@ -242,6 +250,7 @@ fn partition_stage(size: i64, args: ProperList) -> Next<State>
     }
 }
 
+#[tactic(auto, using(crate::proofs::WordTurns::parts_wrong_size, crate::proofs::WordTurns::parts_cell, crate::proofs::WordTurns::size_takes))]
 fn partition_cell(size: i64, args: ProperList) -> Next<State>
     requires two { length args.items ≡ 2 }
     requires size { first_number (plains args.items) ≡ Some size }
@@ -255,6 +264,7 @@ fn partition_cell(size: i64, args: ProperList) -> Next<State>
     }
 }
 
+#[tactic(auto, using(crate::proofs::WordTurns::iterate_arity, crate::proofs::WordTurns::iterate_first, crate::proofs::WordTurns::next_takes))]
 /// `iterate`
 fn iterate_call(args: ProperList) -> Result<Next<State>, NoMemory>
     ensures { IfOk result (λ r. Takes (iterate_call (plains args.items)) r) }
@@ -293,6 +303,7 @@ fn all_numbers(alloc: Global) -> Result<Next<State>, NoMemory>
     Ok(first_then(Proper::of_int(0), term))
 }
 
+#[tactic(auto, using(crate::proofs::WordTurns::range_gives, crate::proofs::Taking::gives_same))]
 /// The integers from the first up to the second, which is left out.
 fn gives_range(from: i64, end: i64) -> Next<State>
     ensures { Takes (give (range_at from from end)) result }
@@ -302,6 +313,7 @@ fn gives_range(from: i64, end: i64) -> Next<State>
     })
 }
 
+#[tactic(auto, using(crate::proofs::WordTurns::range_wrong_end, crate::proofs::WordTurns::range_ends))]
 fn range_to(args: ProperList) -> Next<State>
     requires { length args.items ≡ 1 }
     ensures { Takes (range_call (plains args.items)) result }
@@ -319,12 +331,14 @@ fn range_between(args: ProperList) -> Result<Next<State>, NoMemory>
     requires { length args.items ≡ 2 }
     ensures { IfOk result (λ r. Takes (range_call (plains args.items)) r) }
 {
-    match counted_of(args)? {
+    let counted = counted_of(args)?;
+    match counted {
         None => Ok(throws(Thrown::BadType)),
         Some(counted) => Ok(range_from(counted)),
     }
 }
 
+#[tactic(auto, using(crate::proofs::WordTurns::range_wrong_stop, crate::proofs::WordTurns::range_spans))]
 fn range_from(counted: Counted) -> Next<State>
     ensures { Takes (range_call (M.int counted.count ∷ plain counted.source.value ∷ [])) result }
 {
@@ -337,6 +351,7 @@ fn range_from(counted: Counted) -> Next<State>
     }
 }
 
+#[tactic(auto, using(crate::proofs::WordTurns::repeat_cell, crate::proofs::WordTurns::repeat_takes, crate::proofs::WordTurns::repeat_arity))]
 /// `repeat`
 fn repeat_call(alloc: Global, args: ProperList) -> Result<Next<State>, NoMemory>
     ensures { IfOk result (λ r. Takes (repeat_call (plains args.items)) r) }
@@ -352,12 +367,14 @@ fn repeat_some(alloc: Global, args: ProperList) -> Result<Next<State>, NoMemory>
     requires { length args.items ≡ 2 }
     ensures { IfOk result (λ r. Takes (repeat_call (plains args.items)) r) }
 {
-    match counted_of(args)? {
+    let counted = counted_of(args)?;
+    match counted {
         None => Ok(throws(Thrown::BadType)),
         Some(counted) => repeat_counted(alloc, counted),
     }
 }
 
+#[tactic(auto, using(crate::proofs::WordTurns::repeat_makes))]
 /// The part that repeats the value is made first.
 fn repeat_counted(alloc: Global, counted: Counted) -> Result<Next<State>, NoMemory>
     ensures { IfOk result (λ r. Takes (repeat_call (M.int counted.count ∷ plain counted.source.value ∷ [])) r) }
@@ -368,11 +385,13 @@ fn repeat_counted(alloc: Global, counted: Counted) -> Result<Next<State>, NoMemo
     Ok(makes(AtPart::TakeOf { count }, term))
 }
 
+#[tactic(auto, using(crate::proofs::WordTurns::cycle_arity, crate::proofs::WordTurns::cycle_makes))]
 /// `cycle`
 fn cycle_call(alloc: Global, args: ProperList) -> Result<Next<State>, NoMemory>
     ensures { IfOk result (λ r. Takes (cycle_call (plains args.items)) r) }
 {
-    match only(args)? {
+    let value = only(args)?;
+    match value {
         None => Ok(throws(Thrown::Arity)),
         Some(whole) => {
             let round = whole.share()?;

@@ -83,7 +83,7 @@ struct Answered {
 
 /// The answer to a turn, where the parts from 1 on give these, and those that are made are numbered from 101 on. `None` where the rule has ended, or where what it asks has no sequence.
 #[tactic(auto, using(crate::proofs::Driving::args_well))]
-fn answered(alloc: Global, what: Turn, cells: &[Arg], parts: Vec<Part>) -> Result<Answered, Fail>
+fn answer_for(alloc: Global, what: Turn, cells: &[Arg], parts: Vec<Part>) -> Result<Answered, Fail>
     requires { IsTrue (is_well_formed_turn what) }
     ensures { IfOk result (λ x. IfSome x.answer (λ a. Fits (awaited what) a)) }
 {
@@ -134,7 +134,7 @@ fn driven(alloc: Global, rule: RuleState, cells: &[Arg], run: Run) -> Result<Run
     for _turns in 0..100 {
         let (next, what) = turn(alloc, rule, answer).map_err(full)?;
         put_turn(alloc, &mut out, &what)?;
-        let told = answered(alloc, what, cells, parts)?;
+        let told = answer_for(alloc, what, cells, parts)?;
         parts = told.parts;
         match told.answer {
             None => return Ok(Run { parts, out }),
