@@ -4,3 +4,4 @@ pub mod Limits
 pub mod Spans
 pub mod Taking
 pub mod Transport
+pub mod Standing

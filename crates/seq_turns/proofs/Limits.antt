@@ -1,6 +1,5 @@
 -- What goes on with a value that was made, and where it would be too deep or have too many members.
-use Rattle.std.proofs.Common.{◌≡◌, ℕ, zero, suc, ◌+◌, ◌<◌, ◌≤◌, max, nat_le, ℤ, Bool, true, false, List, [], ◌∷◌, ◌++◌, map, reverse, length, refl, ap, sym, subst, ◌∙◌, arith, rules}
-use Rattle.std.specs.Prelude.{IsTrue}
+use Rattle.std.proofs.Common.{◌≡◌, ℕ, suc, ◌+◌, ◌<◌, ◌≤◌, max, nat_le, ℤ, Bool, true, false, List, [], ◌∷◌, ◌++◌, reverse, length, refl, ap, sym, subst, ◌∙◌, arith, rules}
 use Rattle.std.proofs.lemmas.List.{length-map, length-append, length-reverse, reverse-append, reverse-reverse, map-append}
 use Rattle.seq_base.specs.declared.thrown.Thrown.{Thrown}
 use Rattle.seq_base.specs.declared.thrown.Thrown.TheVariants as E
@@ -17,12 +16,12 @@ use Rattle.seq_values.specs.declared.words.Target.{Target}
 use Rattle.seq_values.proofs.WellFormedLemmas.{within}
 use Rattle.seq_values.proofs.PartLemmas.{deepest_joined}
 use Rattle.seq_plan.specs.Plan.{Plan, throw}
-use Rattle.seq_plan.specs.Nodes.{longest, deepest, depth, depths, with_value, with_members, with_items}
+use Rattle.seq_plan.specs.Nodes.{longest, depth, depths, with_value, with_members, with_items}
 use Rattle.seq_plan.specs.Lists.{list_of, put_before, with_first}
 use Rattle.seq_plan.proofs.Depths.{depth_agrees}
 use Rattle.seq_plan.proofs.CursorLemmas.{plain_cons, plain_chunk, plain_vec_seq, plain_empty, list_values}
 use Rattle.seq_turns.proofs.Seeing.{plain_range, plain_vector}
-use Rattle.seq_turns.specs.Making.{Makes}
+use Rattle.seq_turns.specs.Making.{made, Makes}
 use Rattle.seq_turns.specs.declared.made.Made.{Made}
 use Rattle.seq_turns.specs.declared.made.Made.TheVariants as R
 use Rattle.seq_turns.specs.declared.proper.Proper.{Proper}
@@ -44,12 +43,12 @@ pub value_goes : (v : M.Value ℕ) (p : Proper) → plain p.value ≡ v → Make
 value_goes v p e =
     let d : depth v ≤ 256 = omega (arith, ap depth e, depth_agrees p.value, within p.value p.well) in
     let l : nat_le (depth v) 256 ≡ true = is_le (depth v) 256 d in
-    λ k. rw l (ap k (sym e))
+    record { goes = λ k. rw l (ap k (sym e)) }
 
 deep_goes : (v : M.Value ℕ) (m : Made) → m ≡ R.Thrown E.Depth → 256 < depth v → Makes (with_value v) m
 deep_goes v m e d =
     let l : nat_le (depth v) 256 ≡ false = not_le (depth v) 256 d in
-    λ k. rw (e, l) refl
+    record { goes = λ k. rw (e, l) refl }
 
 same_goes : (p q : (M.Value ℕ → Plan ℕ) → Plan ℕ) (m : Made) → p ≡ q → Makes p m → Makes q m
 same_goes p q m e h = subst (λ x. Makes x m) e h
@@ -157,10 +156,10 @@ module _ (l : M.Value ℕ) (id : ℕ) where
   inner k = by_depth k (nat_le (depth l) 256) refl
 
   pub list_in : (p : Proper) (m : Made) → Makes (with_value l) (R.Value p) → Makes (with_value (M.cons (plain p.value & M.no_values) (M.cell id))) m → Makes (with_value (M.cons (l & M.no_values) (M.cell id))) m
-  list_in p m h g = λ k. inner k ∙ h (λ x. with_value (whole x) k) ∙ g k
+  list_in p m h g = record { goes = λ k. inner k ∙ h.goes (λ x. with_value (whole x) k) ∙ g.goes k }
 
   pub list_not : (why : Thrown) → Makes (with_value l) (R.Thrown why) → Makes (with_value (M.cons (l & M.no_values) (M.cell id))) (R.Thrown why)
-  list_not why h = λ k. inner k ∙ h (λ x. with_value (whole x) k)
+  list_not why h = record { goes = λ k. inner k ∙ h.goes (λ x. with_value (whole x) k) }
 
 -- ## One more item, and one more head
 
@@ -182,15 +181,15 @@ module _ (xs : List Value) (x : Value) (whole : List (M.Value ℕ) → M.Value �
   short_more b = is_le _ _ (omega (arith, long_more xs x, b))
 
   more_goes_by : (p : Proper) → length xs < 4294967295 → plain p.value ≡ whole (plains xs ++ plain x ∷ []) → Makes with_more (R.Value p)
-  more_goes_by p b e = λ k. rw (short_more b) (value_goes (whole (plains xs ++ plain x ∷ [])) p e k)
+  more_goes_by p b e = record { goes = λ k. rw (short_more b) ((value_goes (whole (plains xs ++ plain x ∷ [])) p e).goes k) }
 
   more_deep_by : (m : Made) → length xs < 4294967295 → m ≡ R.Thrown E.Depth → 256 < depth (whole (plains xs ++ plain x ∷ [])) → Makes with_more m
-  more_deep_by m b e d = λ k. rw (short_more b) (deep_goes (whole (plains xs ++ plain x ∷ [])) m e d k)
+  more_deep_by m b e d = record { goes = λ k. rw (short_more b) ((deep_goes (whole (plains xs ++ plain x ∷ [])) m e d).goes k) }
 
   more_many_by : (m : Made) → 4294967295 ≤ length xs → m ≡ R.Thrown E.Overflow → Makes with_more m
   more_many_by m b e =
       let l : nat_le (length (plains xs ++ plain x ∷ [])) longest ≡ false = not_le _ _ (omega (arith, long_more xs x, b)) in
-      λ k. rw (e, l) refl
+      record { goes = λ k. rw (e, l) refl }
 
 abbrev a_vector : List (M.Value ℕ) → M.Value ℕ
 a_vector ys = M.vector (M.values ys)
@@ -273,3 +272,31 @@ module _ (x : M.Value ℕ) (m : Made) where
   pub before_no_items : (kept : ℕ) (ys : List Value) → length ys ≡ 0 → Before (plain V.Nil) → First (plain (V.Vector kept ys))
   before_no_items kept [] b h = subst First (sym (plain_vector kept [])) (subst Before plain_nil h)
   before_no_items kept (y ∷ ys) b h = absurd cc
+
+  -- what is no sequence
+  abbrev Wrong : M.Value ℕ → Type 0
+  Wrong s = (k : M.Value ℕ → Plan ℕ) → with_first x s k ≡ throw E.BadType
+
+  wrong : (v s : M.Value ℕ) → v ≡ s → Wrong s → m ≡ R.Thrown E.BadType → First v
+  wrong v s e w t = record { goes = λ k. subst Wrong (sym e) w k ∙ sym (ap (λ n. made n k) t) }
+
+  pub before_bool : (b : Bool) → m ≡ R.Thrown E.BadType → First (plain (V.Bool b))
+  before_bool b t = wrong (plain (V.Bool b)) (M.bool b) (search (rules, the_lemmas)) (λ k. refl) t
+
+  pub before_int : (n : ℤ) → m ≡ R.Thrown E.BadType → First (plain (V.Int n))
+  before_int n t = wrong (plain (V.Int n)) (M.int n) (search (rules, the_lemmas)) (λ k. refl) t
+
+  pub before_keyword : (name : List ℕ) → m ≡ R.Thrown E.BadType → First (plain (V.Keyword name))
+  before_keyword name t = wrong (plain (V.Keyword name)) (M.keyword name) (search (rules, the_lemmas)) (λ k. refl) t
+
+  pub before_text : (bytes : List ℕ) → m ≡ R.Thrown E.BadType → First (plain (V.Text bytes))
+  before_text bytes t = wrong (plain (V.Text bytes)) (M.text bytes) (search (rules, the_lemmas)) (λ k. refl) t
+
+  pub before_function : (f : FnValue) → m ≡ R.Thrown E.BadType → First (plain (V.Function f))
+  before_function f t = wrong (plain (V.Function f)) (M.function f.target (M.values (plains f.bound))) (plain_function f.target f.depth f.bound) (λ k. refl) t
+
+  plain_reduced : (kept : ℕ) (held : Value) → plain (V.Reduced kept held) ≡ M.reduced (plain held)
+  plain_reduced kept held = search (rules, the_lemmas)
+
+  pub before_reduced : (kept : ℕ) (held : Value) → m ≡ R.Thrown E.BadType → First (plain (V.Reduced kept held))
+  before_reduced kept held t = wrong (plain (V.Reduced kept held)) (M.reduced (plain held)) (plain_reduced kept held) (λ k. refl) t

@@ -1,20 +1,17 @@
 -- Lists of well-formed values.
-use Rattle.std.proofs.Common.{◌≡◌, ℕ, zero, suc, ◌+◌, ◌<◌, ◌≤◌, nat_le, Bool, true, false, List, [], ◌∷◌, ◌++◌, length, drop, reverse, slice_get, Some, None, ◌&&◌, refl, ap, sym, subst, ◌∙◌, rules, arith, length-append}
-use Rattle.std.specs.Prelude.{IsTrue, Bor}
-use Rattle.std.specs.declared.option.Option.{Option}
-use Rattle.std.specs.Option.{option_copied}
+use Rattle.std.proofs.Common.{◌≡◌, ℕ, zero, suc, ◌+◌, ◌<◌, ◌≤◌, nat_le, true, false, List, [], ◌∷◌, ◌++◌, map, length, drop, reverse, slice_get, Some, None, refl, ap, sym, subst, ◌∙◌, rules, arith, length-append}
+use Rattle.std.specs.Prelude.{IsTrue}
 use Rattle.std.proofs.lemmas.List.{length-map, map-append, length-reverse, reverse-append}
-use Rattle.seq_base.specs.declared.thrown.Thrown.TheVariants.{Overflow}
 use Rattle.seq_values.specs.Model as M
 use Rattle.seq_values.specs.Plain.{plain, plains}
-use Rattle.seq_values.specs.WellFormed.{is_well_formed, are_well_formed}
+use Rattle.seq_values.specs.WellFormed.{is_well_formed, are_well_formed, sight_of}
+use Rattle.seq_values.specs.WellFormedTerms.{takes}
+use Rattle.seq_values.specs.declared.words.Op.{Op}
 use Rattle.seq_values.specs.declared.value.Value.{Value}
 use Rattle.seq_values.proofs.DepthLemmas.{and_parts, both}
 use Rattle.seq_values.proofs.WellFormedLemmas.{one_well, well_joined, member_well}
-use Rattle.seq_plan.specs.Plan.{Plan, throw}
 use Rattle.seq_plan.specs.Nodes.{with_members, longest}
 use Rattle.seq_turns.specs.Making.{Grows}
-use Rattle.seq_turns.specs.declared.made.Grown.{Grown}
 use Rattle.seq_turns.specs.declared.made.Grown.TheVariants as G
 use Rattle.seq_turns.specs.declared.proper.Gathered.{Gathered}
 
@@ -62,12 +59,12 @@ long_more xs x = length-append (plains xs) (plain x ∷ []) ∙ ap (λ n. n + 1)
 pub grows_all : (xs : List Value) (x : Value) (all : Gathered) → length xs < 4294967295 → plains all.items.items ≡ plains xs ++ plain x ∷ [] → Grows (with_members (plains xs ++ plain x ∷ [])) (G.All all)
 grows_all xs x all b e =
     let l : nat_le (length (plains xs ++ plain x ∷ [])) longest ≡ true = is_le _ _ (omega (arith, long_more xs x, b)) in
-    λ k. rw l (ap k (sym e))
+    record { goes = λ k. rw l (ap k (sym e)) }
 
 pub grows_no_more : (xs : List Value) (x : Value) → 4294967295 ≤ length xs → Grows (with_members (plains xs ++ plain x ∷ [])) G.TooMany
 grows_no_more xs x b =
     let l : nat_le (length (plains xs ++ plain x ∷ [])) longest ≡ false = not_le _ _ (omega (arith, long_more xs x, b)) in
-    λ k. rw l refl
+    record { goes = λ k. rw l refl }
 
 -- ## Turned round
 
@@ -82,3 +79,12 @@ turned_long xs h = omega (arith, length-reverse xs)
 
 pub one_longer : (xs ys : List Value) (x : Value) (n : ℕ) → length xs ≡ n → ys ≡ xs ++ x ∷ [] → length ys ≡ n + 1
 one_longer xs ys x n e p = ap length p ∙ length-append xs (x ∷ []) ∙ ap (λ m. m + 1) e
+
+-- ## Terms
+
+-- of the same arguments
+pub takes_same : (op : Op) (xs ys : List Value) → ys ≡ xs → IsTrue (takes op (map sight_of xs)) → IsTrue (takes op (map sight_of ys))
+takes_same op xs ys e h = subst (λ zs. IsTrue (takes op (map sight_of zs))) (sym e) h
+
+pub term_same : (op : Op) (xs ys : List Value) (t : M.Term ℕ) → ys ≡ xs → t ≡ record { op = op; args = plains ys } → t ≡ record { op = op; args = plains xs }
+term_same op xs ys t e h = h ∙ ap (λ zs. record { op = op; args = plains zs }) e

@@ -1,5 +1,5 @@
 -- What `seq` finds of a node and of a vector.
-use Rattle.std.proofs.Common.{◌≡◌, ℕ, ◌+◌, ◌<◌, ℤ, List, [], ◌∷◌, length, true, refl, ap, sym, ◌∙◌, rules, arith}
+use Rattle.std.proofs.Common.{◌≡◌, ℕ, ◌<◌, ℤ, List, [], ◌∷◌, length, true, refl, ap, rules, arith}
 use Rattle.std.specs.Prelude.{IsTrue, int_lt, cond}
 use Rattle.seq_values.specs.Model as M
 use Rattle.seq_values.specs.Model.{◌&◌}
@@ -10,7 +10,7 @@ use Rattle.seq_values.specs.declared.value.Value.TheVariants as V
 use Rattle.seq_values.specs.declared.value.Node.TheVariants as N
 use Rattle.seq_values.specs.declared.value.Node.TheFolds.{the_lemmas}
 use Rattle.seq_values.proofs.WellFormedLemmas.{cons_holds, chunk_holds, vec_seq_holds, range_ends}
-use Rattle.seq_plan.specs.Cursors.{own, vector_stand}
+use Rattle.seq_plan.specs.Cursors.{own}
 use Rattle.seq_plan.specs.Nodes.{now, found}
 use Rattle.seq_plan.proofs.CursorLemmas.{own_cons, own_chunk, own_vec_seq, plain_cons, plain_chunk, plain_vec_seq}
 
@@ -22,14 +22,14 @@ cons_owns kept hs r h = omega (arith, own_cons kept hs r, (cons_holds hs r kept 
 pub chunk_owns : (kept : ℕ) (xs : List Value) (r : Value) → IsTrue (is_well_formed_node (N.Chunk kept xs r)) → 0 < own (plain (V.Node (N.Chunk kept xs r)))
 chunk_owns kept xs r h = omega (arith, own_chunk kept xs r, (chunk_holds xs r kept h).0.some)
 
-plain_range : (from at end : ℤ) → plain (V.Node (N.Range from at end)) ≡ M.range from at end
+pub plain_range : (from at end : ℤ) → plain (V.Node (N.Range from at end)) ≡ M.range from at end
 plain_range from at end = search (rules, the_lemmas)
 
 pub range_owns : (from at end : ℤ) → IsTrue (is_well_formed_node (N.Range from at end)) → 0 < own (plain (V.Node (N.Range from at end)))
 range_owns from at end h =
     let e : int_lt at end ≡ true = range_ends from at end h in
     let p : own (plain (V.Node (N.Range from at end))) ≡ cond (int_lt at end) 1 0 = ap own (plain_range from at end) in
-    let q : cond (int_lt at end) 1 0 ≡ 1 = ap (λ b. cond b 1 0) e in
+    let q : ◌≡◌ {A = ℕ} (cond (int_lt at end) 1 0) 1 = ap (λ b. cond {A = ℕ} b 1 0) e in
     omega (arith, p, q)
 
 pub vec_seq_owns : (kept : ℕ) (xs : List Value) (at : ℕ) → IsTrue (is_well_formed_node (N.VecSeq kept xs at)) → 0 < own (plain (V.Node (N.VecSeq kept xs at)))

@@ -1,11 +1,9 @@
 -- Where the first chunk of a node ends.
-use Rattle.std.proofs.Common.{◌≡◌, ℕ, zero, suc, ◌+◌, ◌-◌, ◌*◌, ◌/◌, ◌%◌, ◌<◌, ◌≤◌, min, nat_lt, ℤ, pos, negsuc, ◌+ℤ◌, ◌-ℤ◌, ◌*ℤ◌, ◌<ℤ◌, ◌≤ℤ◌, int_lt, int_le, int_div, unsigned_abs, Bool, true, false, cond, List, [], ◌∷◌, ◌++◌, length, take, drop, Some, None, refl, ap, sym, subst, ◌∙◌, rules, arith}
+use Rattle.std.proofs.Common.{◌≡◌, ℕ, zero, suc, ◌+◌, ◌-◌, ◌*◌, ◌/◌, ◌%◌, ◌<◌, ◌≤◌, min, nat_lt, ℤ, pos, negsuc, ◌+ℤ◌, ◌-ℤ◌, ◌*ℤ◌, ◌<ℤ◌, ◌≤ℤ◌, int_lt, int_le, int_div, unsigned_abs, Bool, true, false, cond, List, [], ◌∷◌, ◌++◌, length, take, drop, Some, refl, ap, sym, subst, ◌∙◌, arith}
 use Rattle.std.specs.Prelude.{IsTrue, IsSome}
-use Rattle.std.specs.declared.option.Option.{Option}
 use Rattle.std.proofs.lemmas.Bool.{lt-ltb, le-ltb}
-use Rattle.std.proofs.lemmas.Bool.Decides.{nat_tests}
 use Rattle.std.proofs.lemmas.Int.{ints}
-use Rattle.std.proofs.lemmas.List.{length-map, take-map, drop-map}
+use Rattle.std.proofs.lemmas.List.{take-map, drop-map}
 use Rattle.std.proofs.Math.Nat.{div-add-mod}
 use Rattle.seq_values.specs.Model as M
 use Rattle.seq_values.specs.Plain.{plain, plains}
@@ -21,10 +19,14 @@ use Rattle.seq_turns.proofs.Seeing.{plain_range}
 -- ## Of which nodes
 
 pub no_chunk_of_empty : (size : ℕ) → IsSome (chunk_of size (plain (V.Node N.Empty))) → ⊥
-no_chunk_of_empty size h = subst (λ v. IsSome (chunk_of size v)) plain_empty h
+no_chunk_of_empty size h =
+    let k : false ≡ true = subst (λ v. IsSome (chunk_of size v)) plain_empty h in
+    absurd cc
 
 pub no_chunk_of_cons : (size kept : ℕ) (hs : List Value) (r : Value) → IsSome (chunk_of size (plain (V.Node (N.Cons kept hs r)))) → ⊥
-no_chunk_of_cons size kept hs r h = subst (λ v. IsSome (chunk_of size v)) (plain_cons kept hs r) h
+no_chunk_of_cons size kept hs r h =
+    let k : false ≡ true = subst (λ v. IsSome (chunk_of size v)) (plain_cons kept hs r) h in
+    absurd cc
 
 -- of the same value
 pub chunked_as : (size : ℕ) (v w : M.Value ℕ) → v ≡ w → IsSome (chunk_of size w) → IsSome (chunk_of size v)
@@ -84,7 +86,7 @@ module _ (size : ℕ) (from at end : ℤ) (some : 0 < size) (begun : int_le from
       let e : int_lt at end ≡ true = grind (arith, ints) in
       rw (e, stopped) (grind (arith, ints))
 
-  bounded : at +ℤ pos (min next left) ≤ℤ end
+  bounded : (at +ℤ pos (min next left)) ≤ℤ end
   bounded =
       let l : end -ℤ at ≡ pos left = between at end (grind (arith, ints)) in
       grind (arith, ints)
@@ -95,8 +97,8 @@ module _ (size : ℕ) (from at end : ℤ) (some : 0 < size) (begun : int_le from
   pub range_stopped : (n : ℕ) → n ≡ min next left → at +ℤ pos n ≡ range_stop size from at end
   range_stopped n e = ap (λ k. at +ℤ pos k) e ∙ sym stopped
 
-  pub range_within : (n : ℕ) → n ≡ min next left → at +ℤ pos n ≤ℤ end
-  range_within n e = subst (λ k. at +ℤ pos k ≤ℤ end) (sym e) bounded
+  pub range_within : (n : ℕ) → n ≡ min next left → (at +ℤ pos n) ≤ℤ end
+  range_within n e = subst (λ k. (at +ℤ pos k) ≤ℤ end) (sym e) bounded
 
 pub ints_more : (at : ℤ) (n : ℕ) (x : M.Value ℕ) → x ≡ M.int (at +ℤ pos n) → ints_from at (n + 1) ≡ ints_from at n ++ x ∷ []
 ints_more at zero x e =
@@ -120,11 +122,12 @@ range_is_over from at end v h e =
 pub begun_on : (from at : ℤ) (n : ℕ) (stop : ℤ) → int_le from at ≡ true → stop ≡ at +ℤ pos n → int_le from stop ≡ true
 begun_on from at n stop h e = grind (arith, ints)
 
-pub of_range : (size count : ℕ) (from at end stop : ℤ) (xs : List (M.Value ℕ)) (r : M.Value ℕ) → count ≡ range_count size from at end → at +ℤ pos count ≡ range_stop size from at end → xs ≡ ints_from at count → stop ≡ at +ℤ pos count → r ≡ range_at from stop end → Some (xs, r) ≡ chunk_of size (plain (V.Node (N.Range from at end)))
-of_range size count from at end stop xs r c s e p h =
-    let a : xs ≡ ints_from at (range_count size from at end) = e ∙ ap (λ n. ints_from {C = ℕ} at n) c in
-    let b : r ≡ range_at from (range_stop size from at end) end = h ∙ ap (λ z. range_at from z end) (p ∙ s) in
-    rw (plain_range from at end) (λ i. Some (a i, b i))
+pub of_range : (size count : ℕ) (from at end f a e : ℤ) (xs : List (M.Value ℕ)) (r : M.Value ℕ) → f ≡ from → a ≡ at → e ≡ end → count ≡ range_count size f a e → a +ℤ pos count ≡ range_stop size f a e → xs ≡ ints_from a count → r ≡ range_at f (a +ℤ pos count) e → Some (xs, r) ≡ chunk_of size (plain (V.Node (N.Range from at end)))
+of_range size count from at end f a e xs r pf pa pe c s x h =
+    let items : xs ≡ ints_from a (range_count size f a e) = x ∙ ap (λ n. ints_from {C = ℕ} a n) c in
+    let rest : r ≡ range_at f (range_stop size f a e) e = h ∙ ap (λ z. range_at f z e) s in
+    let here : Some (xs, r) ≡ chunk_of size (M.range f a e) = λ i. Some (items i, rest i) in
+    here ∙ (λ i. chunk_of size (M.range (pf i) (pa i) (pe i))) ∙ ap (chunk_of size) (sym (plain_range from at end))
 
 -- ## Vectors
 

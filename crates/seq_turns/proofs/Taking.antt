@@ -8,8 +8,9 @@ use Rattle.seq_plan.specs.Cursors.{stands}
 use Rattle.seq_plan.specs.declared.cursor.Cursor.{Cursor}
 use Rattle.seq_plan.specs.declared.cursor.Cursor.TheVariants as C
 use Rattle.seq_plan.proofs.Thens.{then_gives}
-use Rattle.seq_turns.specs.Making.{made}
-use Rattle.seq_turns.specs.Turning.{Silent, arrives, opens, finds, Running, TakesTurn, Takes}
+use Rattle.seq_turns.specs.Making.{made, Makes}
+use Rattle.seq_turns.specs.Turning.{Silent, arrives, opens, finds, Running, Takes}
+use Rattle.seq_turns.specs.declared.made.Made.{Made}
 use Rattle.seq_turns.specs.declared.next.Next.{Next}
 
 pub joins : {C : Type 0} {own : Loop → Bool} {rounds : Loop → List (M.Value C) → Round C} {p q r : Plan C} → Silent own rounds p q → Silent own rounds q r → Silent own rounds p r
@@ -41,6 +42,10 @@ module _ {S : Type 0} (rule : Running S) where
   -- a `seq` of what is there already
   pub takes_found : (v w : M.Value ℕ) (k : M.Value ℕ → Plan ℕ) {r : Next S} → found v ≡ now w → Takes rule (k w) r → Takes rule (seq v k) r
   takes_found v w k e h = takes_from (finds e arrives) h
+
+  -- what was made is given, or why it wasn't is thrown
+  pub takes_made : (plan : (M.Value ℕ → Plan ℕ) → Plan ℕ) (m : Made) (k : M.Value ℕ → Plan ℕ) {r : Next S} → Makes plan m → Takes rule (made m k) r → Takes rule (plan k) r
+  takes_made plan m k e h = takes_same (sym (e.goes k)) h
 
   -- what a callee took
   pub in_ok : {E : Type 0} (r : Result (Next S) E) {p q : Plan ℕ} → ((n : Next S) → Takes rule q n → Takes rule p n) → IfOk r (λ n. Takes rule q n) → IfOk r (λ n. Takes rule p n)

@@ -1,9 +1,9 @@
 -- What a rule passes over by its own loops, it passes over by the table's; and `seq` of what `seq` finds is that itself.
-use Rattle.std.proofs.Common.{◌≡◌, ℕ, Bool, true, List, [], ◌∷◌, refl, ap, sym, subst}
+use Rattle.std.proofs.Common.{◌≡◌, Bool, true, List, refl, sym, subst}
 use Rattle.seq_values.specs.Model as M
 use Rattle.seq_values.specs.Model.{◌&◌}
-use Rattle.seq_plan.specs.Plan.{Loop, Plan, Round, go, then, plan_of}
-use Rattle.seq_plan.specs.Nodes.{Found, now, asks_for, no_seq, found}
+use Rattle.seq_plan.specs.Plan.{Loop, Plan, Round, then, plan_of}
+use Rattle.seq_plan.specs.Nodes.{now, found}
 use Rattle.seq_plan.specs.Silent as S
 use Rattle.seq_turns.specs.Turning.{Silent, arrives, opens, finds}
 

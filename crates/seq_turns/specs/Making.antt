@@ -15,13 +15,13 @@ made (D.Value v) k = k (plain v.value)
 made (D.Thrown why) k = throw why
 
 -- whatever comes after it, the plan goes on with what was made
-abbrev pub Makes : ((M.Value ℕ → Plan ℕ) → Plan ℕ) → Made → Type 0
-Makes plan m = (k : M.Value ℕ → Plan ℕ) → plan k ≡ made m k
+pub record Makes (plan : (M.Value ℕ → Plan ℕ) → Plan ℕ) (m : Made) : Type 0 where
+  pub goes : (k : M.Value ℕ → Plan ℕ) → plan k ≡ made m k
 
 -- goes on with the members, or throws where there are too many
 abbrev pub grown : Grown → (List (M.Value ℕ) → Plan ℕ) → Plan ℕ
 grown (G.All all) k = k (plains all.items.items)
 grown G.TooMany k = throw Overflow
 
-abbrev pub Grows : ((List (M.Value ℕ) → Plan ℕ) → Plan ℕ) → Grown → Type 0
-Grows plan g = (k : List (M.Value ℕ) → Plan ℕ) → plan k ≡ grown g k
+pub record Grows (plan : (List (M.Value ℕ) → Plan ℕ) → Plan ℕ) (g : Grown) : Type 0 where
+  pub goes : (k : List (M.Value ℕ) → Plan ℕ) → plan k ≡ grown g k

@@ -45,7 +45,7 @@ fn count_of_range(from: i64, at: i64, end: i64, size: u32) -> u32
     requires some { 0 < size }
     ensures count { result ≡ range_count size from at end }
     ensures stop { at +ℤ pos result ≡ range_stop size from at end }
-    ensures bound { at +ℤ pos result ≤ℤ end }
+    ensures bound { (at +ℤ pos result) ≤ℤ end }
 {
     let done = at.abs_diff(from);
     let left = end.abs_diff(at);
@@ -54,14 +54,23 @@ fn count_of_range(from: i64, at: i64, end: i64, size: u32) -> u32
 }
 
 #[tactic(auto, using(crate::proofs::Spans::ints_more, crate::proofs::Listing::one_longer))]
+/// The integer that comes so many after another.
+fn nth_integer(at: i64, done: u32, end: i64) -> Proper
+    requires { (at +ℤ pos done) <ℤ end }
+    ensures { plain result.value ≡ M.int (at +ℤ pos done) }
+{
+    Proper::of_int(at + done as i64)
+}
+
 /// The integers from `at` on, so many. None of them passes `end`.
 fn integers(alloc: Global, at: i64, count: u32, end: i64) -> Result<Gathered, NoMemory>
-    requires { at +ℤ pos count ≤ℤ end }
+    requires { (at +ℤ pos count) ≤ℤ end }
     ensures { IfOk result (λ all. plains all.items.items ≡ ints_from at count) }
 {
     let mut all = Gathered::with_room(alloc, count as usize)?;
     for done in 0..count {
-        all = all.and(Proper::of_int(at + done as i64))?;
+        let one = nth_integer(at, done, end);
+        all = all.and(one)?;
     }
     Ok(all)
 }
@@ -81,14 +90,27 @@ fn range_from(from: i64, at: i64, end: i64) -> Proper
     }
 }
 
-#[tactic(auto, using(seq_values::proofs::WellFormedLemmas::range_begun, seq_values::proofs::WellFormedLemmas::range_ends, crate::proofs::Spans::of_range, crate::proofs::Spans::begun_on))]
-fn chunk_of_range(
-    alloc: Global,
-    from: i64,
-    at: i64,
-    end: i64,
-    size: u32,
-) -> Result<Chunk, NoMemory>
+/// The number that comes so many after another.
+fn number_after(at: i64, count: u32, end: i64) -> i64
+    requires { (at +ℤ pos count) ≤ℤ end }
+    ensures { result ≡ at +ℤ pos count }
+{
+    at + count as i64
+}
+
+/// What is left of a range after so many integers.
+#[tactic(auto, using(crate::proofs::Spans::begun_on))]
+fn rest_of_range(from: i64, at: i64, count: u32, end: i64) -> Proper
+    requires begun { int_le from at ≡ true }
+    requires within { (at +ℤ pos count) ≤ℤ end }
+    ensures { plain result.value ≡ range_at from (at +ℤ pos count) end }
+{
+    let next = number_after(at, count, end);
+    range_from(from, next, end)
+}
+
+#[tactic(auto, using(seq_values::proofs::WellFormedLemmas::range_begun, seq_values::proofs::WellFormedLemmas::range_ends))]
+fn chunk_of_range(alloc: Global, from: i64, at: i64, end: i64, size: u32) -> Result<Chunk, NoMemory>
     requires well { IsTrue (is_well_formed_node (N.Range from at end)) }
     requires some { 0 < size }
     ensures { IfOk result (λ c. Some (plains c.items.items, plain c.rest.value) ≡ chunk_of size (plain (V.Node (N.Range from at end)))) }
@@ -96,7 +118,7 @@ fn chunk_of_range(
     let count = count_of_range(from, at, end, size);
     let all = integers(alloc, at, count, end)?;
     let items = all.listed(alloc)?;
-    let rest = range_from(from, at + count as i64, end);
+    let rest = rest_of_range(from, at, count, end);
     Ok(Chunk { items, rest })
 }
 

@@ -12,6 +12,7 @@ mod places;
 mod proper;
 mod rule;
 mod seeking;
+mod terms;
 mod ways;
 
 pub use chunks::chunk_of_cursor;
@@ -29,6 +30,7 @@ pub use seeking::{
     cursor_value, first_of_cursor, rest_value, seek, seek_rest, seen_of, seen_value, split_cursor,
     step_cursor,
 };
+pub use terms::{term_of, term_with_one, term_with_two};
 pub use ways::{
     calls, gives, gives_first_before, gives_function, gives_items_before, gives_list_before,
     gives_made, gives_nil, gives_truth, gives_vector, makes, needs, seeks, throws, visits,

@@ -65,7 +65,7 @@ pub fn function_made(target: Target, bound: ProperList) -> Made
 /// An element before the part for the rest.
 #[tactic(auto, using(crate::proofs::Limits::first_goes, crate::proofs::Limits::first_deep, seq_values::proofs::WellFormedLemmas::value_keeps))]
 pub fn first_before(alloc: Global, first: Proper, id: CellId) -> Result<Made, NoMemory>
-    ensures { IfOk result (λ m. Makes (with_value (M.cons (plain first.value M.& M.no_values) (M.cell id))) m) }
+    ensures { IfOk result (λ m. Makes (with_value (M.cons (M.values (plain first.value ∷ [])) (M.cell id))) m) }
 {
     if depth_of(&first.value) > 255 {
         return Ok(too_deep(first.value));
@@ -146,7 +146,7 @@ pub fn list_made(alloc: Global, members: Gathered) -> Result<Made, NoMemory>
 /// A list of the members, as one element before the part for the rest.
 #[tactic(auto, using(crate::proofs::Limits::list_in, crate::proofs::Limits::list_not))]
 pub fn list_before(alloc: Global, members: Gathered, id: CellId) -> Result<Made, NoMemory>
-    ensures { IfOk result (λ m. Makes (with_value (M.cons (list_of (plains members.items.items) M.& M.no_values) (M.cell id))) m) }
+    ensures { IfOk result (λ m. Makes (with_value (M.cons (M.values (list_of (plains members.items.items) ∷ [])) (M.cell id))) m) }
 {
     let list = list_made(alloc, members)?;
     match list {
@@ -173,12 +173,7 @@ fn too_deep_with(items: PVec<Value>, more: Value) -> Made
 }
 
 /// The items with one more.
-fn appended(
-    alloc: Global,
-    items: PVec<Value>,
-    depth: u32,
-    last: Value,
-) -> Result<Value, NoMemory>
+fn appended(alloc: Global, items: PVec<Value>, depth: u32, last: Value) -> Result<Value, NoMemory>
     requires vector { IsTrue (is_well_formed (V.Vector depth items)) }
     requires few { length items < 4294967295 }
     requires last { IsTrue (is_well_formed last) }
@@ -191,7 +186,12 @@ fn appended(
 
 /// A vector with one more item, the last.
 #[tactic(auto, using(crate::proofs::Limits::more_goes, crate::proofs::Limits::more_deep, crate::proofs::Limits::more_many, seq_values::proofs::WellFormedLemmas::value_keeps))]
-pub fn one_more(alloc: Global, depth: u32, items: PVec<Value>, last: Proper) -> Result<Made, NoMemory>
+pub fn one_more(
+    alloc: Global,
+    depth: u32,
+    items: PVec<Value>,
+    last: Proper,
+) -> Result<Made, NoMemory>
     requires { IsTrue (is_well_formed (V.Vector depth items)) }
     ensures { IfOk result (λ m. Makes (λ k. with_members (plains items ++ plain last.value ∷ []) (λ ys. with_value (M.vector (M.values ys)) k)) m) }
 {
@@ -217,7 +217,7 @@ fn no_sequence(first: Value, rest: Value) -> Made
 fn before_rest(alloc: Global, first: Proper, rest: Value) -> Result<Made, NoMemory>
     requires well { IsTrue (is_well_formed rest) }
     requires ends { IsTrue (ends_cons (sight_of rest)) }
-    ensures { IfOk result (λ m. Makes (with_value (M.cons (plain first.value M.& M.no_values) (plain rest))) m) }
+    ensures { IfOk result (λ m. Makes (with_value (M.cons (M.values (plain first.value ∷ [])) (plain rest))) m) }
 {
     if depth_of(&first.value) > 255 {
         return Ok(too_deep_both(first.value, rest));
@@ -342,12 +342,12 @@ fn before_items(
     )
 }
 
-/// An element before a sequence, as `cons` puts it.
-#[tactic(auto, using(seq_values::proofs::WellFormedLemmas::node_in))]
-pub fn put_first(alloc: Global, first: Proper, rest: Proper) -> Result<Made, NoMemory>
-    ensures { IfOk result (λ m. Makes (with_first (plain first.value) (plain rest.value)) m) }
+#[tactic(auto, using(crate::proofs::Limits::before_nil, crate::proofs::Limits::before_cell, crate::proofs::Limits::before_bool, crate::proofs::Limits::before_int, crate::proofs::Limits::before_keyword, crate::proofs::Limits::before_text, crate::proofs::Limits::before_function, crate::proofs::Limits::before_reduced, seq_values::proofs::WellFormedLemmas::node_in))]
+fn before_value(alloc: Global, first: Proper, rest: Value) -> Result<Made, NoMemory>
+    requires { IsTrue (is_well_formed rest) }
+    ensures { IfOk result (λ m. Makes (with_first (plain first.value) (plain rest)) m) }
 {
-    match rest.value {
+    match rest {
         Value::Nil => before_rest(alloc, first, Value::Nil),
         Value::Bool(truth) => Ok(no_sequence(first.value, Value::Bool(truth))),
         Value::Int(number) => Ok(no_sequence(first.value, Value::Int(number))),

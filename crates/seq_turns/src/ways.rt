@@ -1,5 +1,5 @@
 //! The ways to end a turn. Each is given where the rule stands after it.
-ghost use Rattle.std.specs.Prelude.{◌≡◌, [], IfOk, IsTrue, map};
+ghost use Rattle.std.specs.Prelude.{◌≡◌, [], ◌∷◌, IfOk, IsTrue, map};
 ghost use Rattle.seq_plan.specs.Lists.{list_of};
 ghost use Rattle.seq_plan.specs.Nodes.{give_value, with_items};
 ghost use Rattle.seq_plan.specs.Plan.{visit, ask, seq, call, make, give, throw, done, got, told_made};
@@ -105,7 +105,12 @@ pub fn gives_truth<S: Rule>(over: S, holds: bool) -> Next<S>
     requires { S.running.wait_of over ≡ nothing }
     ensures { Takes S.running (give (M.bool holds)) result }
 {
-    gives(over, Proper { value: Value::Bool(holds) })
+    gives(
+        over,
+        Proper {
+            value: Value::Bool(holds),
+        },
+    )
 }
 
 /// Ends with an error.
@@ -138,7 +143,7 @@ pub fn gives_first_before<S: Rule>(
     id: CellId,
 ) -> Result<Next<S>, NoMemory>
     requires { S.running.wait_of over ≡ nothing }
-    ensures { IfOk result (λ r. Takes S.running (give_value (M.cons (plain first.value M.& M.no_values) (M.cell id))) r) }
+    ensures { IfOk result (λ r. Takes S.running (give_value (M.cons (M.values (plain first.value ∷ [])) (M.cell id))) r) }
 {
     let what = first_before(alloc, first, id)?;
     Ok(gives_made(over, what))
@@ -166,7 +171,7 @@ pub fn gives_list_before<S: Rule>(
     id: CellId,
 ) -> Result<Next<S>, NoMemory>
     requires { S.running.wait_of over ≡ nothing }
-    ensures { IfOk result (λ r. Takes S.running (give_value (M.cons (list_of (plains members.items.items) M.& M.no_values) (M.cell id))) r) }
+    ensures { IfOk result (λ r. Takes S.running (give_value (M.cons (M.values (list_of (plains members.items.items) ∷ [])) (M.cell id))) r) }
 {
     let what = list_before(alloc, members, id)?;
     Ok(gives_made(over, what))

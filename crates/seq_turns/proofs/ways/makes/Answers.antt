@@ -1,0 +1,5 @@
+use Rattle.seq_turns.specs.Turning.{arrives}
+use Rattle.seq_turns.proofs.ways.makes.Goals as goal
+
+pub returns : goal.returns
+returns g c = record { goes = arrives; step = tt; waits = c.requires.waits; well = c.requires.well }

@@ -1,0 +1,6 @@
+use Rattle.std.proofs.Common.{refl}
+use Rattle.seq_turns.specs.Turning.{arrives}
+use Rattle.seq_turns.proofs.ways.visits.Goals as goal
+
+pub returns : goal.returns
+returns g c = record { goes = arrives; step = tt; waits = c.requires; well = refl }
