@@ -52,7 +52,7 @@ pub sift_whole : (k : Keeps) (size : ℕ) (f : M.Value ℕ) (s : M.Value ℕ) (x
 sift_whole k size f s xs rest r e h = takes_same (ap (λ o. sift_on (sift_op k) (kept_of k) f s o) e) h
 
 pub element_calls : (a : Applying) (c : Cursor) (first called : Value) (args : List Value) (r : Next State) → plain first ≡ first_of (stands c) → called ≡ a.function.value → plains args ≡ plain first ∷ [] → Takes (call (plain called) (plains args) (λ y. left_value (V.Element a c) y)) r → Takes (calls_first a.purpose (plain a.function.value) (stands c)) r
-element_calls a c first called args r e1 e2 e3 h = calls_same (λ y. element_answered a.purpose (plain a.function.value) (stands c) y) e2 (e3 ∙ ap (λ x. x ∷ []) e1) h
+element_calls a c first called args r e1 e2 e3 h = calls_same a.function.value called args (first_of (stands c) ∷ []) (λ y. element_answered a.purpose (plain a.function.value) (stands c) y) e2 (e3 ∙ ap (λ x. x ∷ []) e1) h
 
 pub single_ends : (k : Keeps) (f s y : M.Value ℕ) (kept : List (M.Value ℕ)) (t : Term) (op : Op) (r : Next State) → kept ≡ kept_of k (first_of s) y → op ≡ sift_op k → plain_term t ≡ record { op = op; args = f ∷ rest_of s ∷ [] } → Takes (one_or_cell kept t.op (plains t.args)) r → Takes (element_answered (U.Sift k) f s y) r
 single_ends k f s y kept t op r e o q h =

@@ -9,7 +9,7 @@ use Rattle.lazy_rules.specs.Arguments.{number, counted, counted_with, first_numb
 -- ## Numbers
 
 pub is_number : (x : M.Value ℕ) (n : ℤ) → number x ≡ Some n → x ≡ M.int n
-is_number (M.int m) n e = ap M.int (cc)
+is_number (M.int m) n e = let p : m ≡ n = cc in ap M.int p
 is_number M.nil n e = absurd cc
 is_number (M.bool b) n e = absurd cc
 is_number (M.keyword k) n e = absurd cc
@@ -21,7 +21,7 @@ is_number (M.cell m) n e = absurd cc
 is_number M.empty n e = absurd cc
 is_number (M.cons ys v) n e = absurd cc
 is_number (M.chunk ys v) n e = absurd cc
-is_number (M.range a b e) n e = absurd cc
+is_number (M.range a b o) n e = absurd cc
 is_number (M.vec_seq ys i) n e = absurd cc
 
 -- ## Lists of one and two

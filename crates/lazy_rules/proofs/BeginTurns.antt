@@ -1,5 +1,6 @@
 -- How the terms begin.
 use Rattle.std.proofs.Common.{◌≡◌, ◌≢◌, ℕ, ℤ, pos, ◌<ℤ◌, int_lt, true, List, [], ◌∷◌, map, length, None, refl, ap, sym, ◌∙◌, arith}
+use Rattle.std.proofs.lemmas.Int.{ints}
 use Rattle.std.proofs.lemmas.List.{length-map}
 use Rattle.seq_base.specs.declared.thrown.Thrown.TheVariants.{BadType}
 use Rattle.seq_values.specs.Model as M
@@ -10,12 +11,15 @@ use Rattle.seq_values.specs.WellFormedTerms.{takes}
 use Rattle.seq_values.specs.declared.value.Value.{Value}
 use Rattle.seq_values.specs.declared.words.Op.{Op}
 use Rattle.seq_values.specs.declared.words.Op.TheVariants as O
-use Rattle.seq_plan.specs.Plan.{Plan, seq, throw}
+use Rattle.seq_plan.specs.Nodes.{if_nil}
+use Rattle.seq_plan.specs.Plan.{Plan, seq, go, give, throw, parts_from}
 use Rattle.seq_turns.specs.declared.next.Next.{Next}
 use Rattle.lazy_rows.specs.Table.{lazy_term}
 use Rattle.lazy_rows.specs.Terms.{map_all_rule, repeat_rule}
 use Rattle.lazy_rules.specs.Arguments.{number, counted, counted_with}
-use Rattle.lazy_rules.specs.Left.{purpose_op, apply_at, map_all_on, Takes}
+use Rattle.lazy_rules.specs.Left.{purpose_op, apply_at, map_all_on, left_seq, Takes}
+use Rattle.lazy_rules.specs.declared.state.AtSeq.TheVariants as Q
+use Rattle.lazy_rules.specs.declared.state.Group.{Group}
 use Rattle.lazy_rules.specs.declared.state.Keeps.{Keeps}
 use Rattle.lazy_rules.specs.declared.state.Keeps.TheVariants as K
 use Rattle.lazy_rules.specs.declared.state.Purpose.{Purpose}
@@ -101,7 +105,7 @@ misfits size ((M.cell m) ∷ xs) e = (refl, refl, refl)
 misfits size (M.empty ∷ xs) e = (refl, refl, refl)
 misfits size ((M.cons ys v) ∷ xs) e = (refl, refl, refl)
 misfits size ((M.chunk ys v) ∷ xs) e = (refl, refl, refl)
-misfits size ((M.range a b e) ∷ xs) e = (refl, refl, refl)
+misfits size ((M.range a b o) ∷ xs) e = (refl, refl, refl)
 misfits size ((M.vec_seq ys i) ∷ xs) e = (refl, refl, refl)
 
 pub take_misfit : (size : ℕ) (args : List Value) (r : Next State) → counted (plains args) ≡ None → Takes (throw BadType) r → Takes (lazy_term size O.Take (plains args)) r
@@ -122,3 +126,18 @@ map_all_is size args f rest p e q = q ∙ sym (ap (λ l. lazy_term size O.MapN (
 
 pub one_begins : (size : ℕ) (args : List Value) (x : Value) → args ≡ x ∷ [] → repeat_rule (plain x) ≡ lazy_term size O.Repeat (plains args)
 one_begins size args x e = sym (ap (λ l. lazy_term size O.Repeat (plains l)) e)
+
+pub drop_begun : (size : ℕ) (args : List Value) (n m : ℤ) (c : M.Value ℕ) (r : Next State) → plains args ≡ M.int n ∷ c ∷ [] → m ≡ n → Takes (seq c (λ s. left_seq (Q.Drop m) s)) r → Takes (lazy_term size O.Drop (plains args)) r
+drop_begun size args n m c r e q h = takes_same (ap (λ k. seq c (λ s. left_seq (Q.Drop k) s)) q ∙ sym (ap (λ l. lazy_term size O.Drop l) e)) h
+
+-- the plan of a group's first round, by its numbers and what was taken
+abbrev group_plan : ℤ → ℤ → List Value → M.Value ℕ → Plan ℕ
+group_plan n left xs s = if_nil s (give M.nil) (go parts_from (M.int n ∷ M.int left ∷ M.vector (M.values (plains xs)) ∷ s ∷ []) give)
+
+pub parts_begun : (size : ℕ) (args : List Value) (n : ℤ) (c : M.Value ℕ) (g : Group) (r : Next State) → plains args ≡ M.int n ∷ c ∷ [] → g.size ≡ n → g.left ≡ n → g.taken.items.items ≡ [] → Takes (seq c (λ s. left_seq (Q.Parts g) s)) r → Takes (lazy_term size O.Parts (plains args)) r
+parts_begun size args n c g r e q p t h = takes_same ((λ i. seq c (λ s. group_plan (q i) (p i) (t i) s)) ∙ sym (ap (λ l. lazy_term size O.Parts l) e)) h
+
+pub part_size : (args : List Value) (n : ℤ) (b : Sight) → takes O.Parts (map sight_of args) ≡ true → map sight_of args ≡ an_int n ∷ b ∷ [] → pos 0 <ℤ n
+part_size args n b t e =
+    let h : int_lt (pos 0) n ≡ true = size_positive args n b t e in
+    grind (arith, ints)

@@ -45,3 +45,9 @@ take_none n c r b h = rw b h
 
 pub take_some : {E : Type 0} (n m : ℤ) (c : M.Value ℕ) (r : Result (Next State) E) → int_le n (pos 0) ≡ false → m ≡ n -ℤ pos 1 → IfOk r (λ x. Takes (seq c (λ s. left_seq (Q.Take m) s)) x) → IfOk r (λ x. Takes (take_rule n c) x)
 take_some n m c r b e h = rw b (ok_same r (ap (λ k. seq c (λ s. left_seq (Q.Take k) s)) e) h)
+
+pub drop_asked : (n m : ℤ) (v : M.Value ℕ) (r : Next State) → m ≡ n → Takes (seq v (λ s. left_seq (Q.Drop m) s)) r → Takes (seq v (λ s. left_seq (Q.Drop n) s)) r
+drop_asked n m v r e h = takes_same (ap (λ k. seq v (λ s. left_seq (Q.Drop k) s)) e) h
+
+pub take_goes : (n m : ℤ) (c : M.Value ℕ) (r : Next State) → int_le n (pos 0) ≡ false → m ≡ n -ℤ pos 1 → Takes (seq c (λ s. left_seq (Q.Take m) s)) r → Takes (take_rule n c) r
+take_goes n m c r b e h = rw b (takes_same (ap (λ k. seq c (λ s. left_seq (Q.Take k) s)) e) h)

@@ -10,3 +10,5 @@ pub mod ConcatTurns
 pub mod MapAllTurns
 pub mod BeginTurns
 pub mod WordTurns
+pub mod Ends
+pub mod PartTurns

@@ -1,5 +1,5 @@
 -- Turns of `map` over several collections.
-use Rattle.std.proofs.Common.{◌≡◌, ℕ, zero, suc, ◌+◌, ◌<◌, ◌≤◌, nat_le, Bool, true, false, ◌||◌, ◌&&◌, List, [], ◌∷◌, ◌++◌, map, reverse, length, take, drop, refl, ap, sym, subst, ◌∙◌, append_nil, append_assoc, arith}
+use Rattle.std.proofs.Common.{◌≡◌, ℕ, zero, suc, ◌+◌, ◌<◌, ◌≤◌, nat_le, Bool, true, false, ◌||◌, ◌&&◌, List, [], ◌∷◌, ◌++◌, map, reverse, length, take, drop, refl, ap, sym, subst, ◌∙◌, append_assoc, arith}
 use Rattle.std.proofs.lemmas.List.{map-append, length-map, reverse-append}
 use Rattle.std.proofs.lemmas.Bool.{leb-true}
 use Rattle.seq_values.specs.Model as M
@@ -88,6 +88,9 @@ ends_with_nil f ss r e h = takes_same (sym (some_nil ss _ e)) h
 
 pub calls_with_all : (f : M.Value ℕ) (ss : List (M.Value ℕ)) (p : Plan ℕ) → is_any_nil ss ≡ false → p ≡ call f (map first_of ss) (λ y. first_and y O.MapN (f ∷ map rest_of ss)) → p ≡ map_all_on f ss
 calls_with_all f ss p e q = q ∙ sym (none_nil ss _ e)
+
+pub firsts_are : (f : M.Value ℕ) (fs gs : List (M.Value ℕ)) (k : M.Value ℕ → Plan ℕ) → fs ≡ gs → call f fs k ≡ call f gs k
+firsts_are f fs gs k e = ap (λ l. call f l k) e
 
 pub all_called : (f called : Value) (firsts : List Value) (fs rs : List (M.Value ℕ)) (rests : List Value) (t : Term) (r : Next State) → called ≡ f → plains firsts ≡ fs → plains rests ≡ plain f ∷ rs → plain_term t ≡ record { op = O.MapN; args = plains rests } → Takes (call (plain called) (plains firsts) (λ y. first_and y t.op (plains t.args))) r → Takes (call (plain f) fs (λ y. first_and y O.MapN (plain f ∷ rs))) r
 all_called f called firsts fs rs rests t r e1 e2 e3 q h =

@@ -1,5 +1,5 @@
 -- Turns over the elements of a chunk, and what is kept of them.
-use Rattle.std.proofs.Common.{◌≡◌, ℕ, zero, suc, ◌+◌, ◌<◌, Bool, true, false, if◌then◌else◌, List, [], ◌∷◌, ◌++◌, length, drop, refl, ap, sym, ◌∙◌, append_nil, arith}
+use Rattle.std.proofs.Common.{◌≡◌, ℕ, zero, suc, ◌+◌, ◌<◌, Bool, true, false, if◌then◌else◌, List, [], ◌∷◌, ◌++◌, length, drop, refl, ap, sym, ◌∙◌, append-nil, arith}
 use Rattle.seq_values.specs.Model as M
 use Rattle.seq_values.specs.Plain.{plain, plains, plain_term}
 use Rattle.seq_values.specs.declared.term.Term.{Term}
@@ -34,7 +34,7 @@ chunk_ends k f kept all rest r e h = rw e h
 pub item_calls : (k : Keeps) (f called : Value) (kept : List (M.Value ℕ)) (all : List Value) (rest : M.Value ℕ) (x : Value) (xs : List Value) (args : List Value) (r : Next State) → all ≡ x ∷ xs → called ≡ f → plains args ≡ plain x ∷ [] → Takes (call (plain called) (plains args) (λ y. sift_answered k (plain f) kept (plains all) rest y)) r → Takes (sift_left k (plain f) kept (plains all) rest) r
 item_calls k f called kept all rest x xs args r e e2 e3 h =
     let j : Takes (call (plain called) (plains args) (λ y. sift_answered k (plain f) kept (plains (x ∷ xs)) rest y)) r = takes_same (λ i. call (plain called) (plains args) (λ y. sift_answered k (plain f) kept (plains (e i)) rest y)) h in
-    rw e (calls_same (λ y. sift_answered k (plain f) kept (plains (x ∷ xs)) rest y) e2 e3 j)
+    rw e (calls_same f called args (plain x ∷ []) (λ y. sift_answered k (plain f) kept (plains (x ∷ xs)) rest y) e2 e3 j)
 
 pub items_make : (k : Keeps) (f rest : M.Value ℕ) (kept items : List Value) (t : Term) (op : Op) (r : Next State) → items ≡ kept → op ≡ sift_op k → plain_term t ≡ record { op = op; args = f ∷ rest ∷ [] } → Takes (make Lazy (plain_term t) (λ m. give_value (with_items (M.values (plains items)) (M.cell m)))) r → Takes (items_and (plains kept) (sift_op k) (f ∷ rest ∷ [])) r
 items_make k f rest kept items t op r e o q h =
@@ -74,4 +74,4 @@ kept_element k c kept all items at y b h e q =
 pub kept_neither : (k : Keeps) (c : Chosen) (kept : List (M.Value ℕ)) (items : List Value) (at : ℕ) (y : M.Value ℕ) → at < length items → ((x : M.Value ℕ) → kept_of k x y ≡ chosen c x y) → c ≡ C.Neither → kept ≡ kept ++ kept_in k (plains (drop at items)) y
 kept_neither k c kept items at y b h e =
     let p = place items at b in
-    sym (ap (λ l. kept ++ kept_in k (plains l) y) p.1 ∙ ap (λ l. kept ++ l) (h (plain p.0) ∙ ap (λ d. chosen d (plain p.0) y) e) ∙ append_nil kept)
+    sym (ap (λ l. kept ++ kept_in k (plains l) y) p.1 ∙ ap (λ l. kept ++ l) (h (plain p.0) ∙ ap (λ d. chosen d (plain p.0) y) e) ∙ append-nil kept)

@@ -2,14 +2,10 @@
 use Rattle.std.specs.declared.result.Result.{Result}
 use Rattle.std.proofs.Common.{◌≡◌, ℕ, Bool, true, false, Ok, Err, IfOk, List, [], ◌∷◌, refl, ap, sym, ◌∙◌}
 use Rattle.seq_values.specs.Model as M
-use Rattle.seq_values.specs.Plain.{plain, plains, plain_term}
-use Rattle.seq_values.specs.declared.term.Term.{Term}
-use Rattle.seq_values.specs.declared.words.Op.{Op}
-use Rattle.seq_values.specs.declared.words.Kind.{Kind}
+use Rattle.seq_values.specs.Plain.{plain, plains}
 use Rattle.seq_values.specs.declared.value.Value.{Value}
-use Rattle.seq_plan.specs.Plan.{Plan, Loop, seq, call, make, go, give, plan_of}
-use Rattle.seq_plan.specs.Nodes.{is_truthy, if_true, found, now}
-use Rattle.seq_plan.specs.Lists.{first_and}
+use Rattle.seq_plan.specs.Plan.{Plan, Loop, seq, call, go, give, plan_of}
+use Rattle.seq_plan.specs.Nodes.{found, now}
 use Rattle.seq_turns.specs.Turning.{Silent, arrives, opens, finds}
 use Rattle.seq_turns.specs.declared.next.Next.{Next}
 use Rattle.seq_turns.proofs.Taking as G
@@ -46,22 +42,8 @@ pub asks_goes : {v w x : M.Value ℕ} (k : M.Value ℕ → Plan ℕ) {r : Next S
 asks_goes k e f h = takes_same (ap (λ s. seq s k) (f ∙ e)) h
 
 -- what goes on after a call
-pub calls_same : {f g : Value} {xs : List Value} {ys : List (M.Value ℕ)} (k : M.Value ℕ → Plan ℕ) {r : Next State} → g ≡ f → plains xs ≡ ys → Takes (call (plain g) (plains xs) k) r → Takes (call (plain f) ys k) r
-calls_same k e q h = takes_same (λ i. call (plain (e i)) (q i) k) h
-
--- a part that is made of an equal term
-pub makes_same : {t : Term} {x : M.Term ℕ} (kind : Kind) (k : ℕ → Plan ℕ) {r : Next State} → plain_term t ≡ x → Takes (make kind (plain_term t) k) r → Takes (make kind x k) r
-makes_same kind k e h = takes_same (ap (λ y. make kind y k) e) h
-
-pub first_same : {t : Term} (v : M.Value ℕ) (op : Op) (xs : List (M.Value ℕ)) {r : Next State} → plain_term t ≡ record { op = op; args = xs } → Takes (first_and v t.op (plains t.args)) r → Takes (first_and v op xs) r
-first_same v op xs e h = takes_same (ap (λ y. first_and v y.op y.args) e) h
-
--- a test that was made
-pub if_so : {b : Bool} (y : M.Value ℕ) {p q : Plan ℕ} → b ≡ is_truthy y → b ≡ true → p ≡ if_true y p q
-if_so y e h = rw (sym e ∙ h) refl
-
-pub if_not : {b : Bool} (y : M.Value ℕ) {p q : Plan ℕ} → b ≡ is_truthy y → b ≡ false → q ≡ if_true y p q
-if_not y e h = rw (sym e ∙ h) refl
+pub calls_same : (f g : Value) (xs : List Value) (ys : List (M.Value ℕ)) (k : M.Value ℕ → Plan ℕ) {r : Next State} → g ≡ f → plains xs ≡ ys → Takes (call (plain g) (plains xs) k) r → Takes (call (plain f) ys k) r
+calls_same f g xs ys k e q h = takes_same (λ i. call (plain (e i)) (q i) k) h
 
 pub gives_same : {v w : M.Value ℕ} {r : Next State} → v ≡ w → Takes (give v) r → Takes (give w) r
 gives_same e h = takes_same (ap give e) h

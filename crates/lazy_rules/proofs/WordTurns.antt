@@ -1,5 +1,5 @@
 -- What the calls of words make, and give.
-use Rattle.std.proofs.Common.{◌≡◌, ◌≢◌, ℕ, ◌+◌, ◌<◌, ◌≤◌, ℤ, pos, ◌<ℤ◌, int_lt, cond, true, false, if◌then◌else◌, List, [], ◌∷◌, map, length, drop, Some, None, refl, ap, sym, ◌∙◌, arith, rules}
+use Rattle.std.proofs.Common.{◌≡◌, ◌≢◌, ℕ, ◌+◌, ◌<◌, ◌≤◌, ℤ, pos, ◌<ℤ◌, int_lt, cond, Bool, true, false, Option, if◌then◌else◌, List, [], ◌∷◌, map, length, drop, Some, None, refl, ap, sym, ◌∙◌, arith, rules}
 use Rattle.std.specs.Prelude.{IsTrue}
 use Rattle.std.proofs.lemmas.Int.{ints}
 use Rattle.std.proofs.lemmas.List.{length-map}
@@ -132,7 +132,7 @@ count_wrong_one op kind (M.cell m) e = refl
 count_wrong_one op kind M.empty e = refl
 count_wrong_one op kind (M.cons ys v) e = refl
 count_wrong_one op kind (M.chunk ys v) e = refl
-count_wrong_one op kind (M.range a b e) e = refl
+count_wrong_one op kind (M.range a b o) e = refl
 count_wrong_one op kind (M.vec_seq ys i) e = refl
 count_wrong_one op kind (M.int n) e = absurd cc
 
@@ -148,7 +148,7 @@ count_wrong_two op kind (M.cell m) c e = refl
 count_wrong_two op kind M.empty c e = refl
 count_wrong_two op kind (M.cons ys v) c e = refl
 count_wrong_two op kind (M.chunk ys v) c e = refl
-count_wrong_two op kind (M.range a b e) c e = refl
+count_wrong_two op kind (M.range a b o) c e = refl
 count_wrong_two op kind (M.vec_seq ys i) c e = refl
 count_wrong_two op kind (M.int n) c e = absurd cc
 
@@ -164,7 +164,7 @@ count_many op kind (M.cell m) c d ds = refl
 count_many op kind M.empty c d ds = refl
 count_many op kind (M.cons ys v) c d ds = refl
 count_many op kind (M.chunk ys v) c d ds = refl
-count_many op kind (M.range a b e) c d ds = refl
+count_many op kind (M.range a b o) c d ds = refl
 count_many op kind (M.vec_seq ys i) c d ds = refl
 count_many op kind (M.int n) c d ds = refl
 
@@ -223,7 +223,7 @@ parts_wrong_one (M.cell m) e = refl
 parts_wrong_one M.empty e = refl
 parts_wrong_one (M.cons ys v) e = refl
 parts_wrong_one (M.chunk ys v) e = refl
-parts_wrong_one (M.range a b e) e = refl
+parts_wrong_one (M.range a b o) e = refl
 parts_wrong_one (M.vec_seq ys i) e = refl
 parts_wrong_one (M.int n) e = absurd cc
 
@@ -239,7 +239,7 @@ parts_wrong_two (M.cell m) c e = refl
 parts_wrong_two M.empty c e = refl
 parts_wrong_two (M.cons ys v) c e = refl
 parts_wrong_two (M.chunk ys v) c e = refl
-parts_wrong_two (M.range a b e) c e = refl
+parts_wrong_two (M.range a b o) c e = refl
 parts_wrong_two (M.vec_seq ys i) c e = refl
 parts_wrong_two (M.int n) c e = absurd cc
 
@@ -255,7 +255,7 @@ parts_many (M.cell m) c d ds = refl
 parts_many M.empty c d ds = refl
 parts_many (M.cons ys v) c d ds = refl
 parts_many (M.chunk ys v) c d ds = refl
-parts_many (M.range a b e) c d ds = refl
+parts_many (M.range a b o) c d ds = refl
 parts_many (M.vec_seq ys i) c d ds = refl
 parts_many (M.int n) c d ds = refl
 
@@ -347,7 +347,7 @@ plain_empty = search (rules, the_lemmas)
 pub range_gives : (from end : ℤ) (n : Node) → n ≡ (if int_lt from end then N.Range from from end else N.Empty) → plain (V.Node n) ≡ range_at from from end
 range_gives from end n e = plain_node n _ e ∙ by (int_lt from end) refl
   where
-    by : (b : _) → int_lt from end ≡ b → plain (V.Node (if int_lt from end then N.Range from from end else N.Empty)) ≡ range_at from from end
+    by : (b : Bool) → int_lt from end ≡ b → plain (V.Node (if int_lt from end then N.Range from from end else N.Empty)) ≡ range_at from from end
     by true q = rw q (plain_range from from end)
     by false q = rw q plain_empty
 
@@ -363,7 +363,7 @@ range_wrong_one (M.cell m) e = refl
 range_wrong_one M.empty e = refl
 range_wrong_one (M.cons ys v) e = refl
 range_wrong_one (M.chunk ys v) e = refl
-range_wrong_one (M.range a b e) e = refl
+range_wrong_one (M.range a b o) e = refl
 range_wrong_one (M.vec_seq ys i) e = refl
 range_wrong_one (M.int n) e = absurd cc
 
@@ -379,7 +379,7 @@ range_wrong_first (M.cell m) y e = refl
 range_wrong_first M.empty y e = refl
 range_wrong_first (M.cons ys v) y e = refl
 range_wrong_first (M.chunk ys v) y e = refl
-range_wrong_first (M.range a b e) y e = refl
+range_wrong_first (M.range a b o) y e = refl
 range_wrong_first (M.vec_seq ys i) y e = refl
 range_wrong_first (M.int n) y e = absurd cc
 
@@ -395,7 +395,7 @@ range_wrong_second n (M.cell m) e = refl
 range_wrong_second n M.empty e = refl
 range_wrong_second n (M.cons ys v) e = refl
 range_wrong_second n (M.chunk ys v) e = refl
-range_wrong_second n (M.range a b e) e = refl
+range_wrong_second n (M.range a b o) e = refl
 range_wrong_second n (M.vec_seq ys i) e = refl
 range_wrong_second n (M.int m) e = absurd cc
 
@@ -411,7 +411,7 @@ range_many (M.cell m) y z zs = refl
 range_many M.empty y z zs = refl
 range_many (M.cons ys v) y z zs = refl
 range_many (M.chunk ys v) y z zs = refl
-range_many (M.range a b e) y z zs = refl
+range_many (M.range a b o) y z zs = refl
 range_many (M.vec_seq ys i) y z zs = refl
 range_many (M.int n) M.nil z zs = refl
 range_many (M.int n) (M.bool b) z zs = refl
@@ -424,7 +424,7 @@ range_many (M.int n) (M.cell m) z zs = refl
 range_many (M.int n) M.empty z zs = refl
 range_many (M.int n) (M.cons ys v) z zs = refl
 range_many (M.int n) (M.chunk ys v) z zs = refl
-range_many (M.int n) (M.range a b e) z zs = refl
+range_many (M.int n) (M.range a b o) z zs = refl
 range_many (M.int n) (M.vec_seq ys i) z zs = refl
 range_many (M.int n) (M.int o) z zs = refl
 
@@ -447,7 +447,7 @@ range_ends (x ∷ y ∷ ys) n m r l e q h = absurd (omega (arith, l))
 counted_none : (x y : M.Value ℕ) → counted (x ∷ y ∷ []) ≡ None → number x ≡ None
 counted_none x y e = by (number x) refl
   where
-    by : (o : _) → number x ≡ o → number x ≡ None
+    by : (o : Option ℤ) → number x ≡ o → number x ≡ None
     by None q = q
     by (Some n) q = absurd cc
 
@@ -486,7 +486,7 @@ repeat_wrong (M.cell m) y e = refl
 repeat_wrong M.empty y e = refl
 repeat_wrong (M.cons ys v) y e = refl
 repeat_wrong (M.chunk ys v) y e = refl
-repeat_wrong (M.range a b e) y e = refl
+repeat_wrong (M.range a b o) y e = refl
 repeat_wrong (M.vec_seq ys i) y e = refl
 repeat_wrong (M.int n) y e = absurd cc
 
@@ -502,7 +502,7 @@ repeat_many (M.cell m) y z zs = refl
 repeat_many M.empty y z zs = refl
 repeat_many (M.cons ys v) y z zs = refl
 repeat_many (M.chunk ys v) y z zs = refl
-repeat_many (M.range a b e) y z zs = refl
+repeat_many (M.range a b o) y z zs = refl
 repeat_many (M.vec_seq ys i) y z zs = refl
 repeat_many (M.int n) y z zs = refl
 

@@ -5,7 +5,7 @@ ghost use Rattle.lazy_rules.specs.declared.state.AtPart.TheVariants as P;
 ghost use Rattle.lazy_rules.specs.declared.state.Purpose.TheVariants as U;
 ghost use Rattle.lazy_rows.specs.Terms.{sift_on};
 ghost use Rattle.seq_plan.specs.Cursors.{stands};
-ghost use Rattle.seq_plan.specs.Nodes.{chunk_of, rest_of};
+ghost use Rattle.seq_plan.specs.Nodes.{chunk_of, rest_of, is_truthy};
 ghost use Rattle.seq_plan.specs.Plan.{seq, go, give, drop_while_from};
 ghost use Rattle.seq_turns.specs.Seen.{seen};
 ghost use Rattle.seq_values.specs.Model as M;

@@ -121,6 +121,7 @@ fn take_begins(alloc: Global, args: ProperList, chunk: u32) -> Result<Next<State
     }
 }
 
+#[tactic(auto, using(crate::proofs::DropTurns::take_none, crate::proofs::DropTurns::take_goes))]
 /// The collection isn't touched where nothing is to be taken.
 fn take_counted(alloc: Global, counted: Counted) -> Result<Next<State>, NoMemory>
     ensures { IfOk result (λ r. Takes (take_rule counted.count (plain counted.source.value)) r) }
@@ -130,9 +131,11 @@ fn take_counted(alloc: Global, counted: Counted) -> Result<Next<State>, NoMemory
         let_go(source);
         return Ok(gives_nil());
     }
-    start(alloc, AtSeq::Take { left: count - 1 }, source)
+    let next = start(alloc, AtSeq::Take { left: count - 1 }, source)?;
+    Ok(next)
 }
 
+#[tactic(auto, using(crate::proofs::BeginTurns::drop_misfit, crate::proofs::BeginTurns::drop_begun))]
 fn drop_begins(alloc: Global, args: ProperList, chunk: u32) -> Result<Next<State>, NoMemory>
     ensures { IfOk result (λ r. Takes (lazy_term chunk O.Drop (plains args.items)) r) }
 {
@@ -141,7 +144,8 @@ fn drop_begins(alloc: Global, args: ProperList, chunk: u32) -> Result<Next<State
         None => Ok(throws(Thrown::BadType)),
         Some(counted) => {
             let Counted { count, source } = counted;
-            start(alloc, AtSeq::Drop { count }, source)
+            let next = start(alloc, AtSeq::Drop { count }, source)?;
+            Ok(next)
         }
     }
 }
@@ -182,6 +186,7 @@ fn cycle_begins(alloc: Global, args: ProperList, chunk: u32) -> Result<Next<Stat
     }
 }
 
+#[tactic(auto, using(crate::proofs::BeginTurns::parts_misfit, crate::proofs::BeginTurns::parts_begun, crate::proofs::BeginTurns::part_size))]
 fn parts_begins(alloc: Global, args: ProperList, chunk: u32) -> Result<Next<State>, NoMemory>
     requires { takes O.Parts (map sight_of args.items) ≡ true }
     ensures { IfOk result (λ r. Takes (lazy_term chunk O.Parts (plains args.items)) r) }
@@ -196,7 +201,8 @@ fn parts_begins(alloc: Global, args: ProperList, chunk: u32) -> Result<Next<Stat
                 left: count,
                 taken: Gathered::none(alloc),
             };
-            start(alloc, AtSeq::Parts(group), source)
+            let next = start(alloc, AtSeq::Parts(group), source)?;
+            Ok(next)
         }
     }
 }

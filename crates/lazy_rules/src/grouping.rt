@@ -46,6 +46,7 @@ fn group_visits(group: Group, place: Cursor) -> Next<State>
     visits(AtStep::Parts { group, place })
 }
 
+#[tactic(auto, using(crate::proofs::GroupTurns::step_goes, crate::proofs::GroupTurns::step_throws))]
 /// The own step for an element was taken.
 pub(crate) fn parts_step(
     alloc: Global,
@@ -58,7 +59,10 @@ pub(crate) fn parts_step(
     let Split { first, rest } = split_cursor(place)?;
     let grown = taken.grown(first)?;
     match grown {
-        Grown::All(taken) => group_goes(alloc, size, left - 1, taken, rest),
+        Grown::All(taken) => {
+            let next = group_goes(alloc, size, left - 1, taken, rest)?;
+            Ok(next)
+        }
         Grown::TooMany => {
             let_go(rest);
             Ok(throws(Thrown::Overflow))

@@ -198,6 +198,7 @@ fn rest_seen(alloc: Global, what: Seen) -> Result<Proper, NoMemory>
     }
 }
 
+#[tactic(auto, using(crate::proofs::MapAllTurns::turned_rests))]
 /// The function, and what comes after each first element.
 fn rests_of(alloc: Global, function: Proper, seqs: Vec<Seen>) -> Result<ProperList, NoMemory>
     requires { length seqs.items ≤ 4 }
@@ -210,5 +211,7 @@ fn rests_of(alloc: Global, function: Proper, seqs: Vec<Seen>) -> Result<ProperLi
         rests = rests.and(rest)?;
     }
     let all = rests.and(function)?;
-    all.turned().listed(alloc)
+    let turned = all.turned();
+    let items = turned.listed(alloc)?;
+    Ok(items)
 }

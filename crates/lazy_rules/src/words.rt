@@ -190,7 +190,7 @@ fn first_number(args: &ProperList) -> Option<i64>
     }
 }
 
-#[tactic(auto, using(crate::proofs::WordTurns::count_stage, crate::proofs::WordTurns::count_cell, crate::proofs::WordTurns::count_wrong_kind, crate::proofs::WordTurns::count_arity, crate::proofs::WordTurns::counted_binds, crate::proofs::WordTurns::counted_takes))]
+#[tactic(auto, using(crate::proofs::WordTurns::count_arity))]
 /// `take`, `drop`
 fn count_call(op: Op, kind: XfKind, args: ProperList) -> Next<State>
     requires takes { (n : ℤ) (a : Sight) → takes op (an_int n ∷ a ∷ []) ≡ true }
@@ -198,15 +198,35 @@ fn count_call(op: Op, kind: XfKind, args: ProperList) -> Next<State>
     ensures { Takes (with_count op kind (plains args.items)) result }
 {
     match args.len() {
-        1 => match first_number(&args) {
-            None => wrong_kind(args),
-            Some(_) => gives_stage(kind, args),
-        },
-        2 => match first_number(&args) {
-            None => wrong_kind(args),
-            Some(_) => makes_cell(op, args),
-        },
+        1 => count_stage(op, kind, args),
+        2 => count_cell(op, kind, args),
         _ => wrong_number(args),
+    }
+}
+
+#[tactic(auto, using(crate::proofs::WordTurns::count_stage, crate::proofs::WordTurns::count_wrong_kind))]
+fn count_stage(op: Op, kind: XfKind, args: ProperList) -> Next<State>
+    requires one { length args.items ≡ 1 }
+    requires binds { (n : ℤ) → binds_stage kind (an_int n ∷ []) ≡ true }
+    ensures { Takes (with_count op kind (plains args.items)) result }
+{
+    let found = first_number(&args);
+    match found {
+        None => wrong_kind(args),
+        Some(_number) => gives_stage(kind, args),
+    }
+}
+
+#[tactic(auto, using(crate::proofs::WordTurns::count_cell, crate::proofs::WordTurns::count_wrong_kind))]
+fn count_cell(op: Op, kind: XfKind, args: ProperList) -> Next<State>
+    requires two { length args.items ≡ 2 }
+    requires takes { (n : ℤ) (a : Sight) → takes op (an_int n ∷ a ∷ []) ≡ true }
+    ensures { Takes (with_count op kind (plains args.items)) result }
+{
+    let found = first_number(&args);
+    match found {
+        None => wrong_kind(args),
+        Some(_number) => makes_cell(op, args),
     }
 }
 
