@@ -1,5 +1,5 @@
 -- How the terms begin.
-use Rattle.std.proofs.Common.{◌≡◌, ◌≢◌, ℕ, ℤ, pos, ◌<ℤ◌, int_lt, true, List, [], ◌∷◌, map, length, None, refl, ap, sym, ◌∙◌, arith}
+use Rattle.std.proofs.Common.{◌≡◌, ◌≢◌, ℕ, ◌+◌, ◌<◌, ℤ, pos, ◌<ℤ◌, int_lt, true, List, [], ◌∷◌, map, length, drop, None, refl, ap, sym, ◌∙◌, arith}
 use Rattle.std.proofs.lemmas.Int.{ints}
 use Rattle.std.proofs.lemmas.List.{length-map}
 use Rattle.seq_base.specs.declared.thrown.Thrown.TheVariants.{BadType}
@@ -15,9 +15,10 @@ use Rattle.seq_plan.specs.Nodes.{if_nil}
 use Rattle.seq_plan.specs.Plan.{Plan, seq, go, give, throw, parts_from}
 use Rattle.seq_turns.specs.declared.next.Next.{Next}
 use Rattle.lazy_rows.specs.Table.{lazy_term}
-use Rattle.lazy_rows.specs.Terms.{map_all_rule, repeat_rule}
+use Rattle.lazy_rows.specs.Terms.{map_all_rule, repeat_rule, seq_each}
+use Rattle.seq_turns.specs.declared.places.Seen.{Seen}
 use Rattle.lazy_rules.specs.Arguments.{number, counted, counted_with}
-use Rattle.lazy_rules.specs.Left.{purpose_op, apply_at, map_all_on, left_seq, Takes}
+use Rattle.lazy_rules.specs.Left.{purpose_op, apply_at, map_all_on, left_seq, seens, Takes}
 use Rattle.lazy_rules.specs.declared.state.AtSeq.TheVariants as Q
 use Rattle.lazy_rules.specs.declared.state.Group.{Group}
 use Rattle.lazy_rules.specs.declared.state.Keeps.{Keeps}
@@ -29,7 +30,7 @@ use Rattle.lazy_rules.proofs.ApplyTurns.{apply_is}
 use Rattle.lazy_rules.proofs.Taking.{takes_same}
 
 -- what an operation takes no other number of arguments than two for
-apply_none : (u : Purpose) (size : ℕ) → lazy_term size (purpose_op u) [] ≡ throw BadType
+apply_none : (u : Purpose) (size : ℕ) → lazy_term {C = ℕ} size (purpose_op u) [] ≡ throw BadType
 apply_none (U.Sift K.Answers) size = refl
 apply_none (U.Sift K.Elements) size = refl
 apply_none (U.Sift K.SomeAnswers) size = refl
@@ -112,17 +113,21 @@ pub take_misfit : (size : ℕ) (args : List Value) (r : Next State) → counted 
 take_misfit size args r e h = takes_same (sym (misfits size (plains args) e).0) h
 
 pub drop_misfit : (size : ℕ) (args : List Value) (r : Next State) → counted (plains args) ≡ None → Takes (throw BadType) r → Takes (lazy_term size O.Drop (plains args)) r
-drop_misfit size args r e h = takes_same (sym (misfits size (plains args) e).1.0) h
+drop_misfit size args r e h = takes_same (sym (misfits size (plains args) e).1) h
 
 pub parts_misfit : (size : ℕ) (args : List Value) (r : Next State) → counted (plains args) ≡ None → Takes (throw BadType) r → Takes (lazy_term size O.Parts (plains args)) r
-parts_misfit size args r e h = takes_same (sym (misfits size (plains args) e).1.1) h
+parts_misfit size args r e h = takes_same (sym (misfits size (plains args) e).2) h
 
 -- a group has at least one element
 pub size_positive : (args : List Value) (n : ℤ) (b : Sight) → takes O.Parts (map sight_of args) ≡ true → map sight_of args ≡ an_int n ∷ b ∷ [] → int_lt (pos 0) n ≡ true
 size_positive args n b t e = sym (ap (takes O.Parts) e) ∙ t
 
-pub map_all_is : (size : ℕ) (args : List Value) (f : Value) (rest : List Value) (p : Plan ℕ) → args ≡ f ∷ rest → p ≡ map_all_rule (plain f) (plains rest) → p ≡ lazy_term size O.MapN (plains args)
-map_all_is size args f rest p e q = q ∙ sym (ap (λ l. lazy_term size O.MapN (plains l)) e)
+pub map_all_begun : (size : ℕ) (args : List Value) (f : Value) (seqs : List Seen) (r : Next State) → drop 0 args ≡ f ∷ drop (0 + 1) args → seqs ≡ [] → Takes (seq_each (seens seqs) (plains (drop 1 args)) (map_all_on (plain f))) r → Takes (lazy_term size O.MapN (plains args)) r
+map_all_begun size args f seqs r e q h = takes_same (ap (λ ss. seq_each (seens ss) (plains (drop 1 args)) (map_all_on (plain f))) q ∙ sym (ap (λ l. lazy_term size O.MapN (plains l)) e)) h
+
+pub some_args : (args : List Value) → takes O.MapN (map sight_of args) ≡ true → 0 < length args
+some_args [] h = absurd cc
+some_args (x ∷ xs) h = omega arith
 
 pub one_begins : (size : ℕ) (args : List Value) (x : Value) → args ≡ x ∷ [] → repeat_rule (plain x) ≡ lazy_term size O.Repeat (plains args)
 one_begins size args x e = sym (ap (λ l. lazy_term size O.Repeat (plains l)) e)

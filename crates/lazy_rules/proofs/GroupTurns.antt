@@ -1,5 +1,7 @@
 -- Turns of `partition-all`.
-use Rattle.std.proofs.Common.{◌≡◌, ℕ, ℤ, pos, ◌-ℤ◌, int_le, true, false, List, [], ◌∷◌, ◌++◌, refl, ap, sym, ◌∙◌}
+use Rattle.std.specs.declared.result.Result.{Result}
+use Rattle.seq_values.specs.declared.value.Value.{Value}
+use Rattle.std.proofs.Common.{IfOk, ◌≡◌, ℕ, ℤ, pos, ◌-ℤ◌, int_le, true, false, List, [], ◌∷◌, ◌++◌, refl, ap, sym, ◌∙◌}
 use Rattle.seq_values.specs.Model as M
 use Rattle.seq_values.specs.Plain.{plain, plains, plain_term}
 use Rattle.seq_values.specs.declared.term.Term.{Term}
@@ -25,7 +27,7 @@ use Rattle.lazy_rules.specs.declared.state.AtSeq.TheVariants as Q
 use Rattle.lazy_rules.specs.declared.state.AtStep.TheVariants as T
 use Rattle.lazy_rules.specs.declared.state.Group.{Group}
 use Rattle.lazy_rules.specs.declared.state.State.{State}
-use Rattle.lazy_rules.proofs.Taking.{takes_same, takes_round, now_goes}
+use Rattle.lazy_rules.proofs.Taking.{takes_same, takes_round, now_goes, ok_same}
 
 pub round_visits : (g : Group) (c : Cursor) (r : Next State) → Takes (visit (left_step (T.Parts g c))) r → Takes (group_round g (stands c)) r
 round_visits g c r h = takes_round parts_from (M.int g.size ∷ M.int g.left ∷ M.vector (M.values (plains g.taken.items.items)) ∷ stands c ∷ []) refl (takes_same (ap (λ l. visit (with_members (l ++ first_of (stands c) ∷ []) (λ ys. parts_on g.size (g.left -ℤ pos 1) ys (stands c)))) (sym (list_values (plains g.taken.items.items)))) h)
@@ -55,6 +57,16 @@ step_throws g c first r e q h =
 
 pub on_full : (n m : ℤ) (xs : List (M.Value ℕ)) (rest : M.Value ℕ) (r : Next State) → int_le m (pos 0) ≡ true → Takes (first_and (list_of xs) O.Parts (M.int n ∷ rest ∷ [])) r → Takes (group_on n m xs rest) r
 on_full n m xs rest r b h = rw b h
+
+-- what comes after an element tells whether the group goes on
+on_same : (n m : ℤ) (xs : List Value) (rest s : M.Value ℕ) (g : Group) → g.size ≡ n → g.left ≡ m → g.taken.items.items ≡ xs → s ≡ rest → int_le m (pos 0) ≡ false → seq s (λ t. if_nil t (group_ends g s) (group_round g t)) ≡ group_on n m (plains xs) rest
+on_same n m xs rest s g e1 e2 e3 e4 b = rw b (λ i. seq (e4 i) (λ t. if_nil t (first_and (list_of (plains (e3 i))) O.Parts (M.int (e1 i) ∷ e4 i ∷ [])) (go parts_from (M.int (e1 i) ∷ M.int (e2 i) ∷ M.vector (M.values (plains (e3 i))) ∷ t ∷ []) give)))
+
+pub goes_on : (n m : ℤ) (xs : List Value) (rest s : M.Value ℕ) (g : Group) (r : Next State) → g.size ≡ n → g.left ≡ m → g.taken.items.items ≡ xs → s ≡ rest → int_le m (pos 0) ≡ false → Takes (seq s (λ t. if_nil t (group_ends g s) (group_round g t))) r → Takes (group_on n m (plains xs) rest) r
+goes_on n m xs rest s g r e1 e2 e3 e4 b h = takes_same (on_same n m xs rest s g e1 e2 e3 e4 b) h
+
+pub goes_on_ok : {E : Type 0} (n m : ℤ) (xs : List Value) (rest s : M.Value ℕ) (g : Group) (r : Result (Next State) E) → g.size ≡ n → g.left ≡ m → g.taken.items.items ≡ xs → s ≡ rest → int_le m (pos 0) ≡ false → IfOk r (λ x. Takes (seq s (λ t. if_nil t (group_ends g s) (group_round g t))) x) → IfOk r (λ x. Takes (group_on n m (plains xs) rest) x)
+goes_on_ok n m xs rest s g r e1 e2 e3 e4 b h = ok_same r (on_same n m xs rest s g e1 e2 e3 e4 b) h
 
 pub on_goes : (n m : ℤ) (xs : List (M.Value ℕ)) (rest : M.Value ℕ) (r : Next State) → int_le m (pos 0) ≡ false → Takes (seq rest (λ t. if_nil t (first_and (list_of xs) O.Parts (M.int n ∷ rest ∷ [])) (go parts_from (M.int n ∷ M.int m ∷ M.vector (M.values xs) ∷ t ∷ []) give))) r → Takes (group_on n m xs rest) r
 on_goes n m xs rest r b h = rw b h

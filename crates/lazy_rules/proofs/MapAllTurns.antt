@@ -61,27 +61,24 @@ seqs_joined seqs all what f xs e = ap (λ ss. seq_each ss xs (map_all_on f)) (ap
 
 -- ## The call
 
+true_false : true ≡ false → ⊥
+true_false e = absurd cc
+
+some_step : (s : M.Value ℕ) (ss : List (M.Value ℕ)) (p : Plan ℕ) (b : Bool) → is_nil s ≡ b → is_any_nil (s ∷ ss) ≡ true → (is_any_nil ss ≡ true → unless_nil_among ss p ≡ give M.nil) → unless_nil_among (s ∷ ss) p ≡ give M.nil
+some_step s ss p true q e k = rw q refl
+some_step s ss p false q e k = rw q (k (rw q at e))
+
 some_nil : (ss : List (M.Value ℕ)) (p : Plan ℕ) → is_any_nil ss ≡ true → unless_nil_among ss p ≡ give M.nil
 some_nil [] p e = absurd cc
-some_nil (s ∷ ss) p e = by (is_nil s) refl
-  where
-    by : (b : Bool) → is_nil s ≡ b → unless_nil_among (s ∷ ss) p ≡ give M.nil
-    by true q = rw q refl
-    by false q =
-        let t : is_any_nil ss ≡ true = rw q at e in
-        rw q (some_nil ss p t)
+some_nil (s ∷ ss) p e = some_step s ss p (is_nil s) refl e (λ t. some_nil ss p t)
+
+none_step : (s : M.Value ℕ) (ss : List (M.Value ℕ)) (p : Plan ℕ) (b : Bool) → is_nil s ≡ b → is_any_nil (s ∷ ss) ≡ false → (is_any_nil ss ≡ false → unless_nil_among ss p ≡ p) → unless_nil_among (s ∷ ss) p ≡ p
+none_step s ss p true q e k = absurd (true_false (rw q at e))
+none_step s ss p false q e k = rw q (k (rw q at e))
 
 none_nil : (ss : List (M.Value ℕ)) (p : Plan ℕ) → is_any_nil ss ≡ false → unless_nil_among ss p ≡ p
 none_nil [] p e = refl
-none_nil (s ∷ ss) p e = by (is_nil s) refl
-  where
-    by : (b : Bool) → is_nil s ≡ b → unless_nil_among (s ∷ ss) p ≡ p
-    by true q =
-        let t : true ≡ false = rw q at e in
-        absurd cc
-    by false q =
-        let t : is_any_nil ss ≡ false = rw q at e in
-        rw q (none_nil ss p t)
+none_nil (s ∷ ss) p e = none_step s ss p (is_nil s) refl e (λ t. none_nil ss p t)
 
 pub ends_with_nil : (f : M.Value ℕ) (ss : List (M.Value ℕ)) (r : Next State) → is_any_nil ss ≡ true → Takes (give M.nil) r → Takes (map_all_on f ss) r
 ends_with_nil f ss r e h = takes_same (sym (some_nil ss _ e)) h

@@ -102,13 +102,16 @@ fn apply_begins(
     }
 }
 
+#[tactic(auto, using(crate::proofs::BeginTurns::map_all_begun, crate::proofs::BeginTurns::some_args))]
 /// The chunk size isn't looked at.
 fn map_all_begins(alloc: Global, args: ProperList, chunk: u32) -> Result<Next<State>, NoMemory>
     requires { takes O.MapN (map sight_of args.items) ≡ true }
     ensures { IfOk result (λ r. Takes (lazy_term chunk O.MapN (plains args.items)) r) }
 {
     let function = value_at(&args, 0)?;
-    gather(alloc, function, Vec::new(alloc), args, 1)
+    let seqs = Vec::new(alloc);
+    let next = gather(alloc, function, seqs, args, 1)?;
+    Ok(next)
 }
 
 fn take_begins(alloc: Global, args: ProperList, chunk: u32) -> Result<Next<State>, NoMemory>

@@ -108,6 +108,7 @@ pub(crate) fn more_kept(
     ensures stands { IfOk result (λ all. plains all.items.items ≡ plains kept.items.items ++ kept_in keeps (plains (drop at items.now.items)) (plain answer.value)) }
     ensures few { IfOk result (λ all. length all.items.items ≤ at + 1) }
 {
+    let _many = items.items.len();
     match keeps.choose(&answer) {
         Chosen::Answer => {
             let all = kept.and(answer)?;
@@ -135,6 +136,7 @@ fn and_element(
     ensures stands { IfOk result (λ all. (x : Value) → drop at items.now.items ≡ x ∷ drop (at + 1) items.now.items → plains all.items.items ≡ plains kept.items.items ++ plain x ∷ []) }
     ensures few { IfOk result (λ all. length all.items.items ≤ at + 1) }
 {
+    let _many = items.items.len();
     let_go(answer);
     let element = value_at(items, at)?;
     let all = kept.and(element)?;

@@ -125,7 +125,7 @@ fn with_tail(
     requires { (0 < at) × (at ≤ length values.now.items) }
     ensures { IfOk result (λ all. all.items.items ≡ first.value ∷ drop at values.now.items) }
 {
-    let count = values.len();
+    let count = values.items.len();
     let room = Gathered::with_room(alloc, count - at + 1)?;
     let mut all = room.and(first)?;
     for place in at..count {

@@ -297,6 +297,7 @@ fn iterate_call(args: ProperList) -> Result<Next<State>, NoMemory>
     Ok(first_then(first, term))
 }
 
+#[tactic(auto, using(crate::proofs::WordTurns::range_arity))]
 /// `range`
 fn range_call(alloc: Global, args: ProperList) -> Result<Next<State>, NoMemory>
     ensures { IfOk result (λ r. Takes (range_call (plains args.items)) r) }
