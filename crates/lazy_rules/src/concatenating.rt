@@ -38,12 +38,11 @@ pub(crate) enum Leading {
 
 /// Looks for the first collection from a place on that has elements or has to be asked.
 fn find_leading(args: &ProperList, at: usize) -> Result<Leading, NoMemory>
-    requires { at ≤ length args.now.items }
     ensures plan { IfOk result (λ l. (size : ℕ) → leads size args.now.items at l) }
     ensures place { IfOk result (λ l. IsLeading args.now.items l) }
 {
     let count = args.len();
-    if at == count {
+    if at >= count {
         return Ok(Leading::Nothing);
     }
     let mut here = at;
@@ -77,7 +76,6 @@ pub(crate) fn concat_from(
     at: usize,
     chunk: u32,
 ) -> Result<Next<State>, NoMemory>
-    requires within { at ≤ length args.items }
     requires positive { 0 < chunk }
     ensures { IfOk result (λ r. Takes (concat_rule chunk (plains (drop at args.items))) r) }
 {
@@ -122,7 +120,7 @@ fn concat_node(
     chunk: u32,
     place: Cursor,
 ) -> Result<Next<State>, NoMemory>
-    requires within { (0 < at) × (at ≤ length args.items) }
+    requires begun { 0 < at }
     requires positive { 0 < chunk }
     ensures { IfOk result (λ r. Takes (concat_on (stands place) (plains (drop at args.items)) (chunk_of chunk (stands place))) r) }
 {
@@ -143,7 +141,7 @@ fn concat_single(
     at: usize,
     place: Cursor,
 ) -> Result<Next<State>, NoMemory>
-    requires within { (0 < at) × (at ≤ length args.items) }
+    requires begun { 0 < at }
     ensures { IfOk result (λ r. Takes (concat_on (stands place) (plains (drop at args.items)) None) r) }
 {
     let Split { first, rest } = split_cursor(place)?;

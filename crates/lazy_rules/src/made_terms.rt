@@ -122,11 +122,11 @@ fn with_tail(
     values: &ProperList,
     at: usize,
 ) -> Result<Gathered, NoMemory>
-    requires { (0 < at) × (at ≤ length values.now.items) }
+    requires { 0 < at }
     ensures { IfOk result (λ all. all.items.items ≡ first.value ∷ drop at values.now.items) }
 {
     let count = values.items.len();
-    let room = Gathered::with_room(alloc, count - at + 1)?;
+    let room = Gathered::with_room(alloc, count.saturating_sub(at) + 1)?;
     let mut all = room.and(first)?;
     for place in at..count {
         let value = value_at(values, place)?;
@@ -142,7 +142,7 @@ pub(crate) fn concat_term(
     args: ProperList,
     at: usize,
 ) -> Result<ProperTerm, NoMemory>
-    requires { (0 < at) × (at ≤ length args.items) }
+    requires { 0 < at }
     ensures { IfOk result (λ t. plain_term t.term ≡ record { op = O.Concat; args = plain rest.value ∷ plains (drop at args.items) }) }
 {
     let all = with_tail(alloc, rest, &args, at)?;

@@ -99,7 +99,6 @@ pub(crate) struct Collections {
     pub(crate) at: usize,
     pub(crate) chunk: u32,
     ghost begun: { 0 < at },
-    ghost within: { at ≤ length args.items },
     ghost positive: { 0 < chunk },
 }
 

@@ -8,7 +8,7 @@ pub returns-then-at-count-clause-plan : goal.returns-then-at-count-clause-plan
 returns-then-at-count-clause-plan c = λ size. none_is size c.args.args.now.items c.args.at (omega (arith, c.len-count.ensures, c.if-at-count.true))
 
 pub loop-here-init : goal.loop-here-init
-loop-here-init c = record { within = omega (arith, c.requires, c.len-count.ensures, c.if-at-count.false); passed = λ size. arrives }
+loop-here-init c = record { within = omega (arith, c.len-count.ensures, c.if-at-count.false); passed = λ size. arrives }
 
 pub returns-in-Now-At-clause-plan : goal.returns-in-Now-At-clause-plan
 returns-in-Now-At-clause-plan c = λ size. joins (c.loop-here.invariant.passed size) (passes_node size c.args.args.now.items c.loop-here.here c.in_ok-value.value.value c.in-Now-At.place c.in_ok-value.ensures (omega (arith, c.loop-here-test.true, c.len-count.ensures)) (rw c.in-Now-At.field-0-is at c.in-Now-At.ensures))
