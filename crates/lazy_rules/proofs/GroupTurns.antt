@@ -59,14 +59,17 @@ pub on_full : (n m : ℤ) (xs : List (M.Value ℕ)) (rest : M.Value ℕ) (r : Ne
 on_full n m xs rest r b h = rw b h
 
 -- what comes after an element tells whether the group goes on
-on_same : (n m : ℤ) (xs : List Value) (rest s : M.Value ℕ) (g : Group) → g.size ≡ n → g.left ≡ m → g.taken.items.items ≡ xs → s ≡ rest → int_le m (pos 0) ≡ false → seq s (λ t. if_nil t (group_ends g s) (group_round g t)) ≡ group_on n m (plains xs) rest
-on_same n m xs rest s g e1 e2 e3 e4 b = rw b (λ i. seq (e4 i) (λ t. if_nil t (first_and (list_of (plains (e3 i))) O.Parts (M.int (e1 i) ∷ e4 i ∷ [])) (go parts_from (M.int (e1 i) ∷ M.int (e2 i) ∷ M.vector (M.values (plains (e3 i))) ∷ t ∷ []) give)))
+abbrev tells_on : ℤ → ℤ → List Value → M.Value ℕ → Plan ℕ
+tells_on n m xs s = seq s (λ t. if_nil t (first_and (list_of (plains xs)) O.Parts (M.int n ∷ s ∷ [])) (go parts_from (M.int n ∷ M.int m ∷ M.vector (M.values (plains xs)) ∷ t ∷ []) give))
 
-pub goes_on : (n m : ℤ) (xs : List Value) (rest s : M.Value ℕ) (g : Group) (r : Next State) → g.size ≡ n → g.left ≡ m → g.taken.items.items ≡ xs → s ≡ rest → int_le m (pos 0) ≡ false → Takes (seq s (λ t. if_nil t (group_ends g s) (group_round g t))) r → Takes (group_on n m (plains xs) rest) r
-goes_on n m xs rest s g r e1 e2 e3 e4 b h = takes_same (on_same n m xs rest s g e1 e2 e3 e4 b) h
+on_same : (n m k l : ℤ) (xs : List Value) (rest s : M.Value ℕ) → k ≡ n → l ≡ m → s ≡ rest → int_le m (pos 0) ≡ false → tells_on k l xs s ≡ group_on n m (plains xs) rest
+on_same n m k l xs rest s e1 e2 e4 b = rw b (λ i. tells_on (e1 i) (e2 i) xs (e4 i))
 
-pub goes_on_ok : {E : Type 0} (n m : ℤ) (xs : List Value) (rest s : M.Value ℕ) (g : Group) (r : Result (Next State) E) → g.size ≡ n → g.left ≡ m → g.taken.items.items ≡ xs → s ≡ rest → int_le m (pos 0) ≡ false → IfOk r (λ x. Takes (seq s (λ t. if_nil t (group_ends g s) (group_round g t))) x) → IfOk r (λ x. Takes (group_on n m (plains xs) rest) x)
-goes_on_ok n m xs rest s g r e1 e2 e3 e4 b h = ok_same r (on_same n m xs rest s g e1 e2 e3 e4 b) h
+pub goes_on : (n m k l : ℤ) (xs : List Value) (rest s : M.Value ℕ) (r : Next State) → k ≡ n → l ≡ m → s ≡ rest → int_le m (pos 0) ≡ false → Takes (tells_on k l xs s) r → Takes (group_on n m (plains xs) rest) r
+goes_on n m k l xs rest s r e1 e2 e4 b h = takes_same (on_same n m k l xs rest s e1 e2 e4 b) h
+
+pub goes_on_ok : {E : Type 0} (n m k l : ℤ) (xs : List Value) (rest s : M.Value ℕ) (r : Result (Next State) E) → k ≡ n → l ≡ m → s ≡ rest → int_le m (pos 0) ≡ false → IfOk r (λ x. Takes (tells_on k l xs s) x) → IfOk r (λ x. Takes (group_on n m (plains xs) rest) x)
+goes_on_ok n m k l xs rest s r e1 e2 e4 b h = ok_same r (on_same n m k l xs rest s e1 e2 e4 b) h
 
 pub on_goes : (n m : ℤ) (xs : List (M.Value ℕ)) (rest : M.Value ℕ) (r : Next State) → int_le m (pos 0) ≡ false → Takes (seq rest (λ t. if_nil t (first_and (list_of xs) O.Parts (M.int n ∷ rest ∷ [])) (go parts_from (M.int n ∷ M.int m ∷ M.vector (M.values xs) ∷ t ∷ []) give))) r → Takes (group_on n m xs rest) r
 on_goes n m xs rest r b h = rw b h

@@ -56,7 +56,8 @@ pub(crate) fn parts_step(
     ensures { IfOk result (λ r. Takes (left_step (T.Parts group place)) r) }
 {
     let Group { size, left, taken } = group;
-    let Split { first, rest } = split_cursor(place)?;
+    let split = split_cursor(place)?;
+    let Split { first, rest } = split;
     let grown = taken.grown(first)?;
     match grown {
         Grown::All(taken) => {

@@ -8,4 +8,4 @@ use Rattle.std.proofs.lemmas.Int.{ints}
 use Rattle.lazy_rules.proofs.grouping.parts_step.Goals as goal
 
 pub returns-in_ok-next-in-All : goal.returns-in_ok-next-in-All
-returns-in_ok-next-in-All c = let f : SFits w64 c.args.group.size = search rules in let l : SFits w64 c.args.group.left = search rules in step_goes c.args.group c.args.place (plain c.in_ok-first.first.value) (rested c.in_ok-first.rest) c.in-All.taken _ _ c.in_ok-next-in-All.next c.in_ok-first.ensures.first c.in_ok-first.ensures.rest (rw c.in-All.is at c.in_ok-grown.ensures) (to_z-of_z w64 c.args.group.size f) (omega (arith, ints, l, c.args.group.more)) c.in_ok-next-in-All.ensures
+returns-in_ok-next-in-All c = let f : SFits w64 c.args.group.size = search rules in let l : SFits w64 c.args.group.left = search rules in step_goes c.args.group c.args.place (plain c.in_ok-split.split.first.value) (rested c.in_ok-split.split.rest) c.in-All.taken _ _ c.in_ok-next-in-All.next c.in_ok-split.ensures.first c.in_ok-split.ensures.rest (rw c.in-All.is at c.in_ok-grown.ensures) (to_z-of_z w64 c.args.group.size f) (omega (arith, ints, l, c.args.group.more)) c.in_ok-next-in-All.ensures
