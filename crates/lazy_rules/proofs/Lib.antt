@@ -12,3 +12,4 @@ pub mod BeginTurns
 pub mod WordTurns
 pub mod Ends
 pub mod PartTurns
+pub mod StepTurns
