@@ -1,0 +1,15 @@
+pub mod Taking
+pub mod MadeTerms
+pub mod ArgumentLemmas
+pub mod ApplyTurns
+pub mod SiftTurns
+pub mod DropTurns
+pub mod CycleTurns
+pub mod GroupTurns
+pub mod ConcatTurns
+pub mod MapAllTurns
+pub mod BeginTurns
+pub mod WordTurns
+pub mod Ends
+pub mod PartTurns
+pub mod StepTurns

@@ -1,0 +1,49 @@
+-- How a turn of this crate's rules takes a node of each plan that may be passed on to it.
+use Rattle.std.specs.declared.result.Result.{Result}
+use Rattle.std.proofs.Common.{◌≡◌, ℕ, Bool, true, false, Ok, Err, IfOk, List, [], ◌∷◌, refl, ap, sym, ◌∙◌}
+use Rattle.seq_values.specs.Model as M
+use Rattle.seq_values.specs.Plain.{plain, plains}
+use Rattle.seq_values.specs.declared.value.Value.{Value}
+use Rattle.seq_plan.specs.Plan.{Plan, Loop, seq, call, go, give, plan_of}
+use Rattle.seq_plan.specs.Nodes.{found, now}
+use Rattle.seq_turns.specs.Turning.{Silent, arrives, opens, finds}
+use Rattle.seq_turns.specs.declared.next.Next.{Next}
+use Rattle.seq_turns.proofs.Taking as G
+use Rattle.lazy_rows.specs.Table.{walk_round}
+use Rattle.lazy_rules.specs.Left.{is_lazy_loop, lazily_run, Takes}
+use Rattle.lazy_rules.specs.declared.state.State.{State}
+
+pub takes_from : {p q : Plan ℕ} {r : Next State} → Silent is_lazy_loop walk_round p q → Takes q r → Takes p r
+takes_from s h = G.takes_from lazily_run s h
+
+pub takes_same : {p q : Plan ℕ} {r : Next State} → p ≡ q → Takes p r → Takes q r
+takes_same e h = G.takes_same lazily_run e h
+
+-- a loop after which nothing comes
+pub takes_round : (l : Loop) (xs : List (M.Value ℕ)) {r : Next State} → is_lazy_loop l ≡ true → Takes (plan_of (walk_round l xs)) r → Takes (go l xs give) r
+takes_round l xs o h = G.takes_round lazily_run l xs o h
+
+-- what a callee took
+pub in_ok : {E : Type 0} (r : Result (Next State) E) {p q : Plan ℕ} → ((n : Next State) → Takes q n → Takes p n) → IfOk r (λ n. Takes q n) → IfOk r (λ n. Takes p n)
+in_ok r f h = G.in_ok lazily_run r f h
+
+pub ok_same : {E : Type 0} (r : Result (Next State) E) {p q : Plan ℕ} → q ≡ p → IfOk r (λ n. Takes q n) → IfOk r (λ n. Takes p n)
+ok_same r e h = in_ok r (λ n t. takes_same e t) h
+
+-- a `seq` of what is there
+pub now_goes : {v w x : M.Value ℕ} (k : M.Value ℕ → Plan ℕ) {r : Next State} → v ≡ x → found v ≡ now w → Takes (k w) r → Takes (seq x k) r
+now_goes k e f h = takes_same (ap (λ s. seq s k) e) (takes_from (finds f arrives) h)
+
+pub now_ok : {E : Type 0} {v w x : M.Value ℕ} (k : M.Value ℕ → Plan ℕ) (r : Result (Next State) E) → v ≡ x → found v ≡ now w → IfOk r (λ n. Takes (k w) n) → IfOk r (λ n. Takes (seq x k) n)
+now_ok k r e f h = in_ok r (λ n t. now_goes k e f t) h
+
+-- a `seq` that is asked
+pub asks_goes : {v w x : M.Value ℕ} (k : M.Value ℕ → Plan ℕ) {r : Next State} → v ≡ x → w ≡ v → Takes (seq w k) r → Takes (seq x k) r
+asks_goes k e f h = takes_same (ap (λ s. seq s k) (f ∙ e)) h
+
+-- what goes on after a call
+pub calls_same : (f g : Value) (xs : List Value) (ys : List (M.Value ℕ)) (k : M.Value ℕ → Plan ℕ) {r : Next State} → g ≡ f → plains xs ≡ ys → Takes (call (plain g) (plains xs) k) r → Takes (call (plain f) ys k) r
+calls_same f g xs ys k e q h = takes_same (λ i. call (plain (e i)) (q i) k) h
+
+pub gives_same : {v w : M.Value ℕ} {r : Next State} → v ≡ w → Takes (give v) r → Takes (give w) r
+gives_same e h = takes_same (ap give e) h

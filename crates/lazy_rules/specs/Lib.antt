@@ -1,0 +1,4 @@
+pub mod Words
+pub mod Left
+pub mod Arguments
+pub mod Leading
