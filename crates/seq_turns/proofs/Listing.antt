@@ -88,3 +88,16 @@ takes_same op xs ys e h = subst (λ zs. IsTrue (takes op (map sight_of zs))) (sy
 
 pub term_same : (op : Op) (xs ys : List Value) (t : M.Term ℕ) → ys ≡ xs → t ≡ record { op = op; args = plains ys } → t ≡ record { op = op; args = plains xs }
 term_same op xs ys t e h = h ∙ ap (λ zs. record { op = op; args = plains zs }) e
+
+-- ## Lists of one and two
+
+pub one_value : (xs : List Value) (x : Value) → length xs ≡ 1 → drop 0 xs ≡ x ∷ drop (0 + 1) xs → xs ≡ x ∷ []
+one_value [] x l e = absurd cc
+one_value (y ∷ []) x l e = e
+one_value (y ∷ z ∷ ys) x l e = absurd (omega (arith, l))
+
+pub two_values : (xs : List Value) (x y : Value) → length xs ≡ 2 → drop 0 xs ≡ x ∷ drop (0 + 1) xs → drop 1 xs ≡ y ∷ drop (1 + 1) xs → xs ≡ x ∷ y ∷ []
+two_values [] x y l e q = absurd cc
+two_values (a ∷ []) x y l e q = absurd (omega (arith, l))
+two_values (a ∷ b ∷ []) x y l e q = e ∙ ap (λ zs. x ∷ zs) q
+two_values (a ∷ b ∷ c ∷ zs) x y l e q = absurd (omega (arith, l))

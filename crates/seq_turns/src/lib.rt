@@ -1,6 +1,7 @@
 //! How the rules that run by turns take a turn: well-formed values by type, what `seq` finds, the first chunk of a node, what is made and how deep it may be, and the ways to end a turn. A function named `law_` states a law over the definitions.
 #![tactic(auto)]
 
+mod arguments;
 mod chunks;
 mod gathering;
 mod handling;
@@ -15,6 +16,7 @@ mod seeking;
 mod terms;
 mod ways;
 
+pub use arguments::{is_truthy, number_of, part_of};
 pub use chunks::chunk_of_cursor;
 pub use laws::{law_found_again, law_silent_in};
 pub use made::{Grown, Made};
