@@ -59,7 +59,8 @@ fn last_chunk(alloc: Global, element: Proper) -> Result<Made, NoMemory> {
 
 /// The element after those of a vector.
 fn more(alloc: Global, whole: Proper, element: Proper) -> Result<Made, NoMemory> {
-    match whole.value {
+    let value = whole.value;
+    match value {
         Value::Vector { depth, items } => one_more(alloc, depth, items, element),
         _ => Ok(Made::Value(element)),
     }
