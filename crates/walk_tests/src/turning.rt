@@ -11,7 +11,7 @@ use seq_values::{Builtin, Line, Turn, Value};
 use seq_vector::{NoMemory, PVec};
 use std::alloc::Global;
 use value_samples::{Sample, samples, seq_of, show};
-use walk_rules::{RuleState, turn};
+use walk_rules::RuleState;
 
 /// The next answer of those that a row has, and nil after the last one.
 fn next_answer(alloc: Global, told: &[Sample], at: &mut usize) -> Result<Proper, NoMemory> {
@@ -43,7 +43,8 @@ fn asked(
     }
     let answer = next_answer(alloc, told, at)?;
     let seq = seq_of(alloc, answer)?;
-    Ok(Some(told_seq(state, seq)))
+    let due = told_seq(alloc, state, seq)?;
+    Ok(Some(due))
 }
 
 fn show_call(function: &Value, args: &PVec<Value>, line: &mut Line) -> Result<(), NoMemory> {
@@ -69,7 +70,8 @@ fn called(
     requires { wait_of state.state ≡ a_value }
 {
     let answer = next_answer(alloc, told, at)?;
-    Ok(Some(told_value(state, answer)))
+    let due = told_value(alloc, state, answer)?;
+    Ok(Some(due))
 }
 
 fn gave(value: Value, line: &mut Line) -> Result<Option<Due>, NoMemory> {
@@ -98,7 +100,8 @@ fn after(
     match turn {
         Turn::Visit => {
             line.append(b". ")?;
-            Ok(Some(stepped(state)))
+            let due = stepped(alloc, state)?;
+            Ok(Some(due))
         }
         Turn::Seq(whole) => asked(alloc, state, whole, told, at, line),
         Turn::Apply { function, args } => {
@@ -112,6 +115,7 @@ fn after(
     }
 }
 
+/// Tells a rule what it asked for, and takes its next turn.
 fn turned(
     alloc: Global,
     due: Due,
@@ -119,8 +123,7 @@ fn turned(
     at: &mut usize,
     line: &mut Line,
 ) -> Result<Option<Due>, NoMemory> {
-    let Due { state, answer } = due;
-    let (state, turn) = turn(alloc, state, answer)?;
+    let Due { state, turn } = due;
     after(alloc, state, turn, told, at, line)
 }
 
@@ -133,7 +136,7 @@ pub(crate) fn transcript(
 ) -> Result<Line, NoMemory> {
     let mut line = Line::new(alloc);
     let mut at = 0;
-    let mut next = begun(word, samples(alloc, args)?);
+    let mut next = begun(alloc, word, samples(alloc, args)?)?;
     for _ in 0..64 {
         match next {
             Some(due) => next = turned(alloc, due, told, &mut at, &mut line)?,
