@@ -1,20 +1,23 @@
 -- Turns of printing.
 use Rattle.std.specs.declared.result.Result.{Result}
-use Rattle.std.proofs.Common.{◌≡◌, ℕ, ◌+◌, ◌<◌, ◌≤◌, Ok, Err, IfOk, Bool, true, false, List, [], ◌∷◌, ◌++◌, length, drop, refl, sym, subst, ap, ◌∙◌, arith, rules}
-use Rattle.std.specs.Prelude.{codes, is_some, unwrap_or}
+use Rattle.std.proofs.Common.{◌≡◌, ℕ, ◌+◌, ◌<◌, Ok, Err, IfOk, Bool, true, false, List, [], ◌∷◌, ◌++◌, length, drop, refl, sym, subst, ap, ◌∙◌, arith, rules}
+use Rattle.std.specs.Prelude.{codes, is_some, unwrap_or, Option, Some, None}
+use Rattle.std.proofs.lemmas.List.{append-nil}
 use Rattle.seq_values.specs.Model as M
-use Rattle.seq_values.specs.Plain.{plain, plains}
-use Rattle.seq_values.specs.Text.{atom_text}
-use Rattle.seq_values.specs.declared.value.Value.{Value}
+use Rattle.seq_values.specs.Layers.{fold_node, fold_function}
+use Rattle.seq_values.specs.Plain.{plain, plains, node_step, value_step, function_step}
+use Rattle.seq_values.specs.Text.{atom_text, text_at}
+use Rattle.seq_values.specs.declared.value.Value.{Value, out-Value}
 use Rattle.seq_values.specs.declared.value.Value.TheVariants as V
-use Rattle.seq_values.specs.declared.value.Node.{Node}
-use Rattle.seq_values.specs.declared.value.Node.TheVariants as N
-use Rattle.seq_values.specs.declared.value.Node.TheFolds.{the_lemmas}
-use Rattle.seq_plan.specs.Plan.{Plan, visit, seq, go, give, then, print_value, print_rest}
+use Rattle.seq_values.specs.declared.value.Node.{Node, out-Node}
+use Rattle.seq_values.specs.declared.value.FnValue.{FnValue}
+use Rattle.seq_values.specs.declared.value.Node.TheOpen.{Value-F, Node-F}
+use Rattle.seq_values.specs.declared.value.Node.TheFolds.{the_lemmas, fold_out-Value, fold_out-Node, fold_out-FnValue}
+use Rattle.seq_plan.specs.Plan.{Plan, visit, seq, give, then, print_value}
 use Rattle.seq_plan.specs.Nodes.{found, now, first_of, rest_of}
 use Rattle.seq_plan.specs.Cursors.{stands}
 use Rattle.seq_plan.specs.declared.cursor.Cursor.{Cursor}
-use Rattle.seq_plan.proofs.CursorLemmas.{list_values, plain_empty, plain_cons, plain_chunk, plain_vec_seq}
+use Rattle.seq_plan.proofs.CursorLemmas.{list_values}
 use Rattle.seq_plan.proofs.Thens.{then_joins}
 use Rattle.seq_turns.specs.Turning.{Silent, arrives, opens, finds}
 use Rattle.seq_turns.specs.Seen.{rested}
@@ -22,7 +25,7 @@ use Rattle.seq_turns.specs.declared.places.Rest.{Rest}
 use Rattle.seq_turns.specs.declared.next.Next.{Next}
 use Rattle.seq_turns.specs.declared.proper.Proper.{Proper}
 use Rattle.seq_turns.specs.declared.proper.ProperList.{ProperList}
-use Rattle.seq_turns.proofs.Seeing.{plain_range, plain_vector}
+use Rattle.seq_turns.proofs.Seeing.{plain_vector}
 use Rattle.seq_turns.proofs.Taking.{joins, some_cursor, takes_from, takes_same, takes_loop}
 use Rattle.seq_meaning.specs.Prints.{spaced, print_items, print_on, print_vector, prints_next}
 use Rattle.print_rules.specs.Left.{after_value, elements_from, is_print, items_from, print_round, prints, resolved, resolved_by, resumes, Takes}
@@ -64,27 +67,43 @@ text_grows p q l et er = sym (λ i. resolved_by give (er i) (M.text (et i)))
 
 -- ## Atoms and functions
 
-atom_on : (v : Value) (l : List ℕ) (h : M.Value ℕ → Plan ℕ) → is_some (atom_text v) ≡ true → then (print_on l (plain v)) h ≡ h (M.text (l ++ unwrap_or (atom_text v) []))
-atom_on V.Nil l h e = refl
-atom_on (V.Bool true) l h e = refl
-atom_on (V.Bool false) l h e = refl
-atom_on (V.Int n) l h e = refl
-atom_on (V.Keyword name) l h e = refl
-atom_on (V.Text bytes) l h e = refl
-atom_on (V.Function f) l h e = refl
-atom_on (V.Vector kept xs) l h e = absurd cc
-atom_on (V.Node n) l h e = absurd cc
-atom_on (V.Reduced kept v) l h e = absurd cc
-atom_on (V.Cell c) l h e = absurd cc
+abbrev plain_node : Node → M.Value ℕ
+plain_node = fold_node (M.Value ℕ) node_step value_step function_step
+
+abbrev plain_function : FnValue → M.Value ℕ
+plain_function = fold_function (M.Value ℕ) node_step value_step function_step
+
+shown_by : (v : Value) (w : M.Value ℕ) (t : List ℕ) (h : M.Value ℕ → Plan ℕ) → plain v ≡ w → then (print_on t (plain v)) h ≡ then (print_on t w) h
+shown_by v w t h e = ap (λ u. then (print_on t u) h) e
+
+atom_at : (v : Value) (l : Value-F Node Value FnValue) → out-Value v ≡ l → (t : List ℕ) (h : M.Value ℕ → Plan ℕ) → is_some (text_at l) ≡ true → then (print_on t (plain v)) h ≡ h (M.text (t ++ unwrap_or (text_at l) []))
+atom_at v Value-F.Nil e t h b = shown_by v M.nil t h (rw e at (fold_out-Value (M.Value ℕ) (M.Value ℕ) (M.Value ℕ) node_step value_step function_step v))
+atom_at v (Value-F.Bool true) e t h b = shown_by v (M.bool true) t h (rw e at (fold_out-Value (M.Value ℕ) (M.Value ℕ) (M.Value ℕ) node_step value_step function_step v))
+atom_at v (Value-F.Bool false) e t h b = shown_by v (M.bool false) t h (rw e at (fold_out-Value (M.Value ℕ) (M.Value ℕ) (M.Value ℕ) node_step value_step function_step v))
+atom_at v (Value-F.Int n) e t h b = shown_by v (M.int n) t h (rw e at (fold_out-Value (M.Value ℕ) (M.Value ℕ) (M.Value ℕ) node_step value_step function_step v))
+atom_at v (Value-F.Keyword name) e t h b = shown_by v (M.keyword name) t h (rw e at (fold_out-Value (M.Value ℕ) (M.Value ℕ) (M.Value ℕ) node_step value_step function_step v))
+atom_at v (Value-F.Text bytes) e t h b = shown_by v (M.text bytes) t h (rw e at (fold_out-Value (M.Value ℕ) (M.Value ℕ) (M.Value ℕ) node_step value_step function_step v))
+atom_at v (Value-F.Function f) e t h b =
+    let p : plain v ≡ plain_function f = rw e at (fold_out-Value (M.Value ℕ) (M.Value ℕ) (M.Value ℕ) node_step value_step function_step v) in
+    let q : plain_function f ≡ M.function f.target (M.values (plains f.bound)) = fold_out-FnValue (M.Value ℕ) (M.Value ℕ) (M.Value ℕ) node_step value_step function_step f in
+    shown_by v (M.function f.target (M.values (plains f.bound))) t h (p ∙ q)
+atom_at v (Value-F.Vector kept xs) e t h b = absurd cc
+atom_at v (Value-F.Node n) e t h b = absurd cc
+atom_at v (Value-F.Reduced kept held) e t h b = absurd cc
+atom_at v (Value-F.Cell c) e t h b = absurd cc
+
+atom_on : (v : Value) (t : List ℕ) (h : M.Value ℕ → Plan ℕ) → is_some (atom_text v) ≡ true → then (print_on t (plain v)) h ≡ h (M.text (t ++ unwrap_or (atom_text v) []))
+atom_on v t h b = atom_at v (out-Value v) refl t h b
 
 pub atom_goes : (v : Value) (p q : Printing) (r : Next State) → is_some (atom_text v) ≡ true → q.text ≡ p.text ++ unwrap_or (atom_text v) [] → q.around.items ≡ p.around.items → Takes (resumes q) r → Takes (then (print_on p.text (plain v)) (resolved p)) r
 atom_goes v p q r b et er h = takes_same prints (sym (atom_on v p.text (resolved p) b ∙ text_grows p q (p.text ++ unwrap_or (atom_text v) []) et er)) h
 
-none_more : (v : Value) (l : List ℕ) → is_some (atom_text v) ≡ false → l ++ unwrap_or (atom_text v) [] ≡ l
-none_more v l b = grind arith
+none_more : (o : Option (List ℕ)) (l : List ℕ) → is_some o ≡ false → l ++ unwrap_or o [] ≡ l
+none_more None l b = append-nil l
+none_more (Some t) l b = absurd cc
 
 pub members_go : (v : Value) (p q : Printing) (r : Next State) → is_some (atom_text v) ≡ false → q.text ≡ p.text ++ unwrap_or (atom_text v) [] → q.around.items ≡ p.around.items → Takes (then (print_on q.text (plain v)) (resolved q)) r → Takes (then (print_on p.text (plain v)) (resolved p)) r
-members_go v p q r b et er h = takes_same prints (λ i. then (print_on ((et ∙ none_more v p.text b) i) (plain v)) (resolved_by give (er i))) h
+members_go v p q r b et er h = takes_same prints (λ i. then (print_on ((et ∙ none_more (atom_text v) p.text b) i) (plain v)) (resolved_by give (er i))) h
 
 -- ## Vectors
 
@@ -130,19 +149,26 @@ reduced_goes p q v x r ex et er h =
 abbrev elements_on : List ℕ → M.Value ℕ → (M.Value ℕ → Plan ℕ) → Plan ℕ
 elements_on l v h = seq v (λ s. elements_from (M.text (l ++ codes "(")) false s h)
 
-pub cell_on : (l : List ℕ) (c : ℕ) (v : M.Value ℕ) (h : M.Value ℕ → Plan ℕ) → v ≡ M.cell c → elements_on l v h ≡ then (print_on l (M.cell c)) h
-cell_on l c v h e = ap (λ w. elements_on l w h) e
+pub cell_on : (l : List ℕ) (c : ℕ) (v : M.Value ℕ) (h : M.Value ℕ → Plan ℕ) → v ≡ M.cell c → elements_on l v h ≡ then (print_on l (plain (V.Cell c))) h
+cell_on l c v h e =
+    let p : plain (V.Cell c) ≡ M.cell c = search (rules, the_lemmas) in
+    ap (λ w. elements_on l w h) e ∙ sym (shown_by (V.Cell c) (M.cell c) l h p)
 
 -- what holds of the node of the meaning holds of the node
 by_plain : (l : List ℕ) (h : M.Value ℕ → Plan ℕ) (v w : M.Value ℕ) → v ≡ w → elements_on l w h ≡ then (print_on l w) h → elements_on l v h ≡ then (print_on l v) h
 by_plain l h v w e f = subst (λ u. elements_on l u h ≡ then (print_on l u) h) (sym e) f
 
+node_at : (n : Node) (m : Node-F Node Value FnValue) → out-Node n ≡ m → (l : List ℕ) (h : M.Value ℕ → Plan ℕ) → elements_on l (plain_node n) h ≡ then (print_on l (plain_node n)) h
+node_at n Node-F.Empty e l h = by_plain l h _ M.empty (rw e at (fold_out-Node (M.Value ℕ) (M.Value ℕ) (M.Value ℕ) node_step value_step function_step n)) refl
+node_at n (Node-F.Cons kept heads rest) e l h = by_plain l h _ (M.cons (M.values (plains heads)) (plain rest)) (rw e at (fold_out-Node (M.Value ℕ) (M.Value ℕ) (M.Value ℕ) node_step value_step function_step n)) refl
+node_at n (Node-F.Chunk kept items rest) e l h = by_plain l h _ (M.chunk (M.values (plains items)) (plain rest)) (rw e at (fold_out-Node (M.Value ℕ) (M.Value ℕ) (M.Value ℕ) node_step value_step function_step n)) refl
+node_at n (Node-F.Range from at end) e l h = by_plain l h _ (M.range from at end) (rw e at (fold_out-Node (M.Value ℕ) (M.Value ℕ) (M.Value ℕ) node_step value_step function_step n)) refl
+node_at n (Node-F.VecSeq kept items at) e l h = by_plain l h _ (M.vec_seq (M.values (plains items)) at) (rw e at (fold_out-Node (M.Value ℕ) (M.Value ℕ) (M.Value ℕ) node_step value_step function_step n)) refl
+
 pub node_on : (l : List ℕ) (n : Node) (h : M.Value ℕ → Plan ℕ) → elements_on l (plain (V.Node n)) h ≡ then (print_on l (plain (V.Node n))) h
-node_on l N.Empty h = by_plain l h _ M.empty plain_empty refl
-node_on l (N.Cons kept heads rest) h = by_plain l h _ (M.cons (M.values (plains heads)) (plain rest)) (plain_cons kept heads rest) refl
-node_on l (N.Chunk kept items rest) h = by_plain l h _ (M.chunk (M.values (plains items)) (plain rest)) (plain_chunk kept items rest) refl
-node_on l (N.Range from at end) h = by_plain l h _ (M.range from at end) (plain_range from at end) refl
-node_on l (N.VecSeq kept items at) h = by_plain l h _ (M.vec_seq (M.values (plains items)) at) (plain_vec_seq kept items at) refl
+node_on l n h =
+    let e : plain (V.Node n) ≡ plain_node n = search (rules, the_lemmas) in
+    by_plain l h _ (plain_node n) e (node_at n (out-Node n) refl l h)
 
 -- the seq of what is printed element by element is there
 pub elements_found : (p q : Printing) (v w : M.Value ℕ) (r : Next State) → q.text ≡ p.text ++ codes "(" → q.around.items ≡ p.around.items → found v ≡ now w → Takes (elements_from (M.text q.text) false w (resolved q)) r → Takes (elements_on p.text v (resolved p)) r

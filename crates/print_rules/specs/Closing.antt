@@ -1,5 +1,5 @@
 -- What comes after a value of which the whole text stands there.
-use Rattle.std.specs.Prelude.{ℕ, ◌<◌, List, length}
+use Rattle.std.specs.Prelude.{ℕ, ◌<◌, length}
 use Rattle.seq_plan.specs.Plan.{Plan}
 use Rattle.seq_turns.specs.Turning.{Silent}
 use Rattle.print_rules.specs.Left.{is_print, print_round, resumes, Takes}

@@ -13,8 +13,7 @@ use crate::state::{Around, Printing, State};
 use crate::texts::let_go;
 use seq_plan::Cursor;
 use seq_turns::{
-    Next, Proper, ProperList, Rest, Seen, Sought, Split, gives, seek_rest, seeks, split_cursor,
-    visits,
+    Next, Proper, ProperList, Rest, Seen, Sought, gives, seek_rest, seeks, split_cursor, visits,
 };
 use seq_vector::NoMemory;
 use std::alloc::Global;
@@ -34,7 +33,8 @@ pub(crate) fn resume(alloc: Global, printing: Printing) -> Result<Next<State>, N
 {
     let mut printing = printing;
     loop {
-        match resume_once(alloc, printing)? {
+        let resumed = resume_once(alloc, printing)?;
+        match resumed {
             Resumed::Turn(next) => return Ok(next),
             Resumed::Closed(closed) => printing = closed,
         }
@@ -143,11 +143,11 @@ pub(crate) fn next_element(after: bool, what: Seen, printing: Printing) -> Resul
 fn print_element(after: bool, place: Cursor, printing: Printing) -> Result<Next<State>, NoMemory>
     ensures { IfOk result (λ r. Takes (elements_from (M.text printing.text) after (stands place) (resolved printing)) r) }
 {
-    let Split { first, rest } = split_cursor(place)?;
+    let split = split_cursor(place)?;
     let printing = printing.spaced(after)?;
-    let printing = printing.within(Around::Elements { rest })?;
+    let printing = printing.within(Around::Elements { rest: split.rest })?;
     Ok(visits(State::Step {
-        value: first,
+        value: split.first,
         printing,
     }))
 }

@@ -26,13 +26,14 @@ pub(crate) fn print_value(
 ) -> Result<Next<State>, NoMemory>
     ensures { IfOk result (λ r. Takes (then (print_on printing.text (plain value.value)) (resolved printing)) r) }
 {
-    let (printed, printing) = printing.with_atom(&value.value)?;
+    let tried = printing.with_atom(&value.value)?;
+    let printed = tried.0;
     if printed {
         let_go(value);
-        let next = resume(alloc, printing)?;
+        let next = resume(alloc, tried.1)?;
         return Ok(next);
     }
-    let next = print_members(alloc, value.value, printing)?;
+    let next = print_members(alloc, value.value, tried.1)?;
     Ok(next)
 }
 
@@ -127,7 +128,8 @@ pub(crate) fn elements_at(
 ) -> Result<Next<State>, NoMemory>
     ensures { IfOk result (λ r. Takes (elements_from (M.text printing.text) after (seen what) (resolved printing)) r) }
 {
-    match next_element(after, what, printing)? {
+    let resumed = next_element(after, what, printing)?;
+    match resumed {
         Resumed::Turn(next) => Ok(next),
         Resumed::Closed(printing) => resume(alloc, printing),
     }

@@ -3,11 +3,11 @@ use Rattle.seq_turns.proofs.Taking.{joins, takes_from}
 use Rattle.print_rules.specs.Left.{prints}
 use Rattle.print_rules.proofs.closing.resume.Goals as goal
 
-pub loop-printing-init : goal.loop-printing-init
-loop-printing-init c = arrives
+pub loop-resumed-init : goal.loop-resumed-init
+loop-resumed-init c = arrives
 
 pub returns-in-Turn : goal.returns-in-Turn
-returns-in-Turn c = takes_from prints c.loop-printing.invariant (rw c.in-Turn.field-0-is at c.in-Turn.ensures.goes)
+returns-in-Turn c = takes_from prints c.loop-resumed.invariant (rw c.in-Turn.is at c.in_ok-resumed.ensures.goes)
 
-pub loop-printing-preserved : goal.loop-printing-preserved
-loop-printing-preserved c = joins c.loop-printing.invariant (rw c.in-Closed.field-0-is at c.in-Closed.ensures.goes)
+pub loop-resumed-preserved : goal.loop-resumed-preserved
+loop-resumed-preserved c = joins c.loop-resumed.invariant (rw c.in-Closed.is at c.in_ok-resumed.ensures.goes)
