@@ -1,26 +1,17 @@
 -- Arguments by their number.
-use Rattle.std.proofs.Common.{◌≡◌, ◌≢◌, ℕ, zero, suc, ◌+◌, ◌<◌, List, [], ◌∷◌, length, drop, refl, ap, sym, ◌∙◌, arith}
+use Rattle.std.proofs.Common.{◌≡◌, ◌≢◌, ◌+◌, List, [], ◌∷◌, length, drop, Option, Some, None, ap, arith}
+use Rattle.std.specs.Prelude.{MatchOption}
 use Rattle.seq_values.specs.declared.value.Value.{Value}
 use Rattle.seq_values.specs.Plain.{plain, plains}
+use Rattle.seq_turns.specs.declared.proper.Proper.{Proper}
 
-pub not_at_end : (xs : List Value) (at : ℕ) → at < length xs → drop at xs ≢ []
-not_at_end [] at b e = absurd (omega arith)
-not_at_end (x ∷ xs) zero b e = absurd cc
-not_at_end (x ∷ xs) (suc at) b e = not_at_end xs at (omega arith) e
+pub one_of : (xs : List Value) (v : Option Proper) → MatchOption v (length xs ≢ 1) (λ x. xs ≡ x.value ∷ []) → MatchOption v (length xs ≢ 1) (λ x. plains xs ≡ plain x.value ∷ [])
+one_of xs None h = h
+one_of xs (Some x) h = ap plains h
 
-pub one_of : (xs : List Value) (x : Value) → length xs ≡ 1 → drop 0 xs ≡ x ∷ drop (0 + 1) xs → plains xs ≡ plain x ∷ []
-one_of [] x e f = absurd cc
-one_of (y ∷ []) x e f = let g : y ≡ x = cc in ap (λ z. plain z ∷ []) g
-one_of (y ∷ z ∷ zs) x e f = absurd (omega (arith, e))
-
-pub two_of : (xs : List Value) (x y : Value) → length xs ≡ 2 → drop 0 xs ≡ x ∷ drop (0 + 1) xs → drop 1 xs ≡ y ∷ drop (1 + 1) xs → plains xs ≡ plain x ∷ plain y ∷ []
-two_of [] x y e f g = absurd cc
-two_of (a ∷ []) x y e f g = absurd cc
-two_of (a ∷ b ∷ []) x y e f g =
-    let p : a ≡ x = cc in
-    let q : b ≡ y = cc in
-    λ i. plain (p i) ∷ plain (q i) ∷ []
-two_of (a ∷ b ∷ c ∷ cs) x y e f g = absurd (omega (arith, e))
+pub two_of : (xs : List Value) (v : Option (Proper × Proper)) → MatchOption v (length xs ≢ 2) (λ p. xs ≡ p.0.value ∷ p.1.value ∷ []) → MatchOption v (length xs ≢ 2) (λ p. plains xs ≡ plain p.0.value ∷ plain p.1.value ∷ [])
+two_of xs None h = h
+two_of xs (Some p) h = ap plains h
 
 pub three_of : (xs : List Value) (x y z : Value) → length xs ≡ 3 → drop 0 xs ≡ x ∷ drop (0 + 1) xs → drop 1 xs ≡ y ∷ drop (1 + 1) xs → drop 2 xs ≡ z ∷ drop (2 + 1) xs → plains xs ≡ plain x ∷ plain y ∷ plain z ∷ []
 three_of [] x y z e f g h = absurd cc

@@ -1,5 +1,5 @@
 -- Turns of `cons` and `conj`.
-use Rattle.std.proofs.Common.{◌≡◌, ◌≢◌, ℕ, ◌+◌, ◌<◌, Bool, true, false, List, [], ◌∷◌, ◌++◌, length, drop, refl, ap, sym, ◌∙◌, arith}
+use Rattle.std.proofs.Common.{◌≡◌, ◌≢◌, ℕ, ◌+◌, ◌<◌, true, List, [], ◌∷◌, ◌++◌, length, drop, Some, None, refl, ap, sym, ◌∙◌, arith}
 use Rattle.seq_base.specs.declared.thrown.Thrown.{Thrown}
 use Rattle.seq_base.specs.declared.thrown.Thrown.TheVariants.{Arity}
 use Rattle.seq_values.specs.Model as M
@@ -15,9 +15,10 @@ use Rattle.seq_turns.specs.declared.made.Made.{Made}
 use Rattle.seq_turns.specs.declared.made.Made.TheVariants as D
 use Rattle.seq_turns.specs.declared.proper.Proper.{Proper}
 use Rattle.seq_turns.specs.declared.proper.ProperList.{ProperList}
+use Rattle.seq_turns.specs.Arguments.{part_in}
 use Rattle.seq_turns.specs.Making.{made, Makes}
 use Rattle.walk_rules.specs.Left.{left_seq, Takes}
-use Rattle.walk_rules.specs.Words.{is_another, is_cell}
+use Rattle.walk_rules.specs.Words.{is_another}
 use Rattle.walk_rules.specs.declared.state.AtSeq.TheVariants as Q
 use Rattle.walk_rules.specs.declared.state.State.{State}
 use Rattle.walk_rules.proofs.Taking.{same}
@@ -44,30 +45,30 @@ conj_one [] c r b e h = absurd cc
 conj_one (x ∷ []) c r b e h = let p : c.value ≡ x = cc in same (ap (λ v. give (plain v)) p) h
 conj_one (x ∷ y ∷ ys) c r b e h = absurd (omega (arith, b))
 
-by_cell : (c : M.Value ℕ) (xs : List (M.Value ℕ)) → is_cell c ≡ true → seq c (λ s. conj_each s xs) ≡ conj_rule c xs
-by_cell M.nil xs e = absurd cc
-by_cell (M.bool b) xs e = absurd cc
-by_cell (M.int m) xs e = absurd cc
-by_cell (M.keyword k) xs e = absurd cc
-by_cell (M.text t) xs e = absurd cc
-by_cell (M.vector ys) xs e = absurd cc
-by_cell (M.function t ys) xs e = absurd cc
-by_cell (M.reduced v) xs e = absurd cc
-by_cell (M.cell c) xs e = refl
-by_cell M.empty xs e = absurd cc
-by_cell (M.cons ys r) xs e = absurd cc
-by_cell (M.chunk ys r) xs e = absurd cc
-by_cell (M.range from at end) xs e = absurd cc
-by_cell (M.vec_seq ys at) xs e = absurd cc
+by_cell : (c : M.Value ℕ) (n : ℕ) (xs : List (M.Value ℕ)) → Some n ≡ part_in c → seq c (λ s. conj_each s xs) ≡ conj_rule c xs
+by_cell M.nil n xs e = absurd cc
+by_cell (M.bool b) n xs e = absurd cc
+by_cell (M.int m) n xs e = absurd cc
+by_cell (M.keyword k) n xs e = absurd cc
+by_cell (M.text t) n xs e = absurd cc
+by_cell (M.vector ys) n xs e = absurd cc
+by_cell (M.function t ys) n xs e = absurd cc
+by_cell (M.reduced v) n xs e = absurd cc
+by_cell (M.cell c) n xs e = refl
+by_cell M.empty n xs e = absurd cc
+by_cell (M.cons ys r) n xs e = absurd cc
+by_cell (M.chunk ys r) n xs e = absurd cc
+by_cell (M.range from at end) n xs e = absurd cc
+by_cell (M.vec_seq ys at) n xs e = absurd cc
 
-pub conj_cell : (args : List Value) (c : Proper) (all : ProperList) (r : Next State) → all.items ≡ args → 1 < length args → drop 0 args ≡ c.value ∷ drop (0 + 1) args → is_cell (plain c.value) ≡ true → Takes (seq (plain c.value) (λ s. left_seq (Q.Conj all) s)) r → Takes (conj_call (plains args)) r
-conj_cell [] c all r a b e k h = absurd (omega arith)
-conj_cell (x ∷ []) c all r a b e k h = absurd (omega arith)
-conj_cell (x ∷ y ∷ ys) c all r a b e k h =
+pub conj_cell : (args : List Value) (c : Proper) (n : ℕ) (all : ProperList) (r : Next State) → all.items ≡ args → 1 < length args → drop 0 args ≡ c.value ∷ drop (0 + 1) args → Some n ≡ part_in (plain c.value) → Takes (seq (plain c.value) (λ s. left_seq (Q.Conj all) s)) r → Takes (conj_call (plains args)) r
+conj_cell [] c n all r a b e k h = absurd (omega arith)
+conj_cell (x ∷ []) c n all r a b e k h = absurd (omega arith)
+conj_cell (x ∷ y ∷ ys) c n all r a b e k h =
     let p : c.value ≡ x = cc in
-    same ((λ i. seq (plain c.value) (λ s. conj_each s (plains (drop 1 (a i))))) ∙ by_cell (plain c.value) (plain y ∷ plains ys) k ∙ ap (λ v. conj_rule (plain v) (plain y ∷ plains ys)) p) h
+    same ((λ i. seq (plain c.value) (λ s. conj_each s (plains (drop 1 (a i))))) ∙ by_cell (plain c.value) n (plain y ∷ plains ys) k ∙ ap (λ v. conj_rule (plain v) (plain y ∷ plains ys)) p) h
 
-by_each : (c : M.Value ℕ) (xs : List (M.Value ℕ)) → is_cell c ≡ false → conj_each c xs ≡ conj_rule c xs
+by_each : (c : M.Value ℕ) (xs : List (M.Value ℕ)) → None ≡ part_in c → conj_each c xs ≡ conj_rule c xs
 by_each M.nil xs e = refl
 by_each (M.bool b) xs e = refl
 by_each (M.int m) xs e = refl
@@ -83,7 +84,7 @@ by_each (M.chunk ys r) xs e = refl
 by_each (M.range from at end) xs e = refl
 by_each (M.vec_seq ys at) xs e = refl
 
-pub conj_another : (args : List Value) (c : Proper) (r : Next State) → 1 < length args → drop 0 args ≡ c.value ∷ drop (0 + 1) args → is_cell (plain c.value) ≡ false → Takes (conj_each (plain c.value) (plains (drop 1 args))) r → Takes (conj_call (plains args)) r
+pub conj_another : (args : List Value) (c : Proper) (r : Next State) → 1 < length args → drop 0 args ≡ c.value ∷ drop (0 + 1) args → None ≡ part_in (plain c.value) → Takes (conj_each (plain c.value) (plains (drop 1 args))) r → Takes (conj_call (plains args)) r
 conj_another [] c r b e k h = absurd (omega arith)
 conj_another (x ∷ []) c r b e k h = absurd (omega arith)
 conj_another (x ∷ y ∷ ys) c r b e k h =

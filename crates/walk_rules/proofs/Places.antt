@@ -1,5 +1,5 @@
 -- Turns of `nth`.
-use Rattle.std.proofs.Common.{◌≡◌, ◌≢◌, ℕ, zero, suc, ◌+◌, ◌<◌, ◌≤◌, ℤ, pos, negsuc, ◌-ℤ◌, ◌&&◌, true, false, int_le, int_lt, List, [], ◌∷◌, map, length, drop, Option, Some, None, refl, ap, sym, subst, ◌∙◌, arith}
+use Rattle.std.proofs.Common.{◌≡◌, ◌≢◌, ℕ, zero, suc, ◌+◌, ◌<◌, ◌≤◌, ℤ, pos, negsuc, ◌-ℤ◌, true, false, int_le, int_lt, List, [], ◌∷◌, length, drop, Option, Some, None, refl, ap, sym, ◌∙◌, arith}
 use Rattle.std.specs.Prelude.{unsigned_abs}
 use Rattle.std.proofs.lemmas.List.{length-map}
 use Rattle.std.proofs.lemmas.Int.{ints}
@@ -7,7 +7,7 @@ use Rattle.seq_base.specs.declared.thrown.Thrown.TheVariants.{Arity, BadType}
 use Rattle.seq_values.specs.Model as M
 use Rattle.seq_values.specs.Plain.{plain, plains}
 use Rattle.seq_values.specs.declared.value.Value.{Value}
-use Rattle.seq_plan.specs.Plan.{Plan, visit, seq, go, give, throw, plan_of, nth_from}
+use Rattle.seq_plan.specs.Plan.{visit, seq, give, throw, plan_of, nth_from}
 use Rattle.seq_plan.specs.Nodes.{first_of, rest_of, value_at}
 use Rattle.seq_plan.specs.Cursors.{stands}
 use Rattle.seq_plan.specs.declared.cursor.Cursor.{Cursor}
@@ -19,7 +19,8 @@ use Rattle.seq_turns.specs.declared.places.Rest.{Rest}
 use Rattle.seq_turns.specs.Seen.{rested}
 use Rattle.seq_turns.proofs.Taking.{some_cursor}
 use Rattle.walk_rules.specs.Left.{default_of, left_seq, left_step, Takes}
-use Rattle.walk_rules.specs.Words.{number, is_another}
+use Rattle.seq_turns.specs.Arguments.{integer_of}
+use Rattle.walk_rules.specs.Words.{is_another}
 use Rattle.walk_rules.specs.declared.state.AtSeq.TheVariants as Q
 use Rattle.walk_rules.specs.declared.state.AtStep.TheVariants as T
 use Rattle.walk_rules.specs.declared.state.State.{State}
@@ -56,7 +57,7 @@ others_given (x ∷ y ∷ []) r n m h = absurd (n refl)
 others_given (x ∷ y ∷ z ∷ []) r n m h = absurd (m refl)
 others_given (x ∷ y ∷ z ∷ w ∷ ws) r n m h = same (many (plain x) (plain y) (plain z) (plain w) (plains ws)) h
 
-is_number : (v : M.Value ℕ) (n : ℤ) → number v ≡ Some n → v ≡ M.int n
+is_number : (v : M.Value ℕ) (n : ℤ) → integer_of v ≡ Some n → v ≡ M.int n
 is_number M.nil n e = absurd cc
 is_number (M.bool b) n e = absurd cc
 is_number (M.int m) n e = let p : m ≡ n = cc in ap M.int p
@@ -76,10 +77,10 @@ by_default : (x : M.Value ℕ) (n : ℤ) (d : Option Proper) → nth_rule n (def
 by_default x n None = refl
 by_default x n (Some d) = refl
 
-pub typed : (x y : M.Value ℕ) (n : ℤ) (d : Option Proper) (r : Next State) → Some n ≡ number y → Takes (nth_rule n (default_of d) x) r → Takes (nth_call (x ∷ y ∷ default_of d)) r
+pub typed : (x y : M.Value ℕ) (n : ℤ) (d : Option Proper) (r : Next State) → Some n ≡ integer_of y → Takes (nth_rule n (default_of d) x) r → Takes (nth_call (x ∷ y ∷ default_of d)) r
 typed x y n d r e h = same (by_default x n d ∙ ap (λ v. nth_call (x ∷ v ∷ default_of d)) (sym (is_number y n (sym e)))) h
 
-no_number : (x y : M.Value ℕ) → number y ≡ None → throw BadType ≡ nth_call (x ∷ y ∷ [])
+no_number : (x y : M.Value ℕ) → integer_of y ≡ None → throw BadType ≡ nth_call (x ∷ y ∷ [])
 no_number x M.nil e = refl
 no_number x (M.bool b) e = refl
 no_number x (M.int m) e = absurd cc
@@ -95,7 +96,7 @@ no_number x (M.chunk xs r) e = refl
 no_number x (M.range from at end) e = refl
 no_number x (M.vec_seq xs at) e = refl
 
-no_number_or : (x y d : M.Value ℕ) → number y ≡ None → throw BadType ≡ nth_call (x ∷ y ∷ d ∷ [])
+no_number_or : (x y d : M.Value ℕ) → integer_of y ≡ None → throw BadType ≡ nth_call (x ∷ y ∷ d ∷ [])
 no_number_or x M.nil d e = refl
 no_number_or x (M.bool b) d e = refl
 no_number_or x (M.int m) d e = absurd cc
@@ -111,7 +112,7 @@ no_number_or x (M.chunk xs r) d e = refl
 no_number_or x (M.range from at end) d e = refl
 no_number_or x (M.vec_seq xs at) d e = refl
 
-pub mistyped : (x y : M.Value ℕ) (d : Option Proper) (r : Next State) → None ≡ number y → Takes (throw BadType) r → Takes (nth_call (x ∷ y ∷ default_of d)) r
+pub mistyped : (x y : M.Value ℕ) (d : Option Proper) (r : Next State) → None ≡ integer_of y → Takes (throw BadType) r → Takes (nth_call (x ∷ y ∷ default_of d)) r
 mistyped x y None r e h = same (no_number x y (sym e)) h
 mistyped x y (Some d) r e h = same (no_number_or x y (plain d.value) (sym e)) h
 

@@ -2,7 +2,7 @@
 use Rattle.std.specs.Prelude.{ℕ, ◌-◌, ℤ, pos, ◌-ℤ◌, Bool, true, false, length, Option, Some, None}
 use Rattle.seq_values.specs.declared.words.Builtin.{Builtin}
 use Rattle.seq_values.specs.declared.words.Builtin.TheVariants as B
-use Rattle.seq_values.specs.Model.{Value, nil, int, vector, reduced, cell, range, vec_seq, list}
+use Rattle.seq_values.specs.Model.{Value, nil, vector, reduced, range, vec_seq, list}
 
 -- the words that walk a collection
 abbrev pub is_walk_word : Builtin → Bool
@@ -29,18 +29,10 @@ is_walk_word B.Reduce = true
 is_walk_word B.Into = true
 is_walk_word _ = false
 
--- the integer that a value is
-abbrev pub number : Value ℕ → Option ℤ
-number (int n) = Some n
-number _ = None
-
+-- what is looked at in a value
 abbrev pub is_vector : Value ℕ → Bool
 is_vector (vector xs) = true
 is_vector _ = false
-
-abbrev pub is_cell : Value ℕ → Bool
-is_cell (cell c) = true
-is_cell _ = false
 
 abbrev pub is_reduced : Value ℕ → Bool
 is_reduced (reduced v) = true

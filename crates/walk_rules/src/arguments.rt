@@ -1,5 +1,5 @@
 //! The arguments of a call, by their number.
-ghost use Rattle.std.specs.Prelude.{◌≡◌, ◌≢◌, ◌<◌, ◌+◌, [], ◌∷◌, length, drop, IfOk, MatchOption};
+ghost use Rattle.std.specs.Prelude.{◌≡◌, ◌≢◌, [], ◌∷◌, length, IfOk, MatchOption};
 ghost use Rattle.seq_values.specs.Plain.{plain, plains};
 ghost use Rattle.walk_rules.specs.Shapes.{AreArguments};
 
@@ -14,28 +14,13 @@ pub(crate) enum TwoOrThree {
     Other,
 }
 
-/// The argument at a place that is there.
-#[tactic(auto, using(crate::proofs::ByNumber::not_at_end))]
-pub(crate) fn argument(args: &ProperList, at: usize) -> Result<Proper, NoMemory>
-    requires { at < length args.now.items }
-    ensures { IfOk result (λ v. drop at args.now.items ≡ v.value ∷ drop (at + 1) args.now.items) }
-{
-    match args.get(at)? {
-        Some(value) => Ok(value),
-        None => unreachable!(),
-    }
-}
-
 /// The only argument, and `None` exactly where there is another number of them.
 #[tactic(auto, using(crate::proofs::ByNumber::one_of))]
 pub(crate) fn only(args: ProperList) -> Result<Option<Proper>, NoMemory>
     ensures { IfOk result (λ x. MatchOption x (length args.items ≢ 1) (λ v. plains args.items ≡ plain v.value ∷ [])) }
 {
-    if args.len() != 1 {
-        return Ok(None);
-    }
-    let value = argument(&args, 0)?;
-    Ok(Some(value))
+    let value = args.only()?;
+    Ok(value)
 }
 
 /// The only two arguments, and `None` exactly where there is another number of them.
@@ -43,12 +28,8 @@ pub(crate) fn only(args: ProperList) -> Result<Option<Proper>, NoMemory>
 pub(crate) fn pair(args: ProperList) -> Result<Option<(Proper, Proper)>, NoMemory>
     ensures { IfOk result (λ x. MatchOption x (length args.items ≢ 2) (λ p. plains args.items ≡ plain p.0.value ∷ plain p.1.value ∷ [])) }
 {
-    if args.len() != 2 {
-        return Ok(None);
-    }
-    let first = argument(&args, 0)?;
-    let second = argument(&args, 1)?;
-    Ok(Some((first, second)))
+    let values = args.pair()?;
+    Ok(values)
 }
 
 /// The only three arguments.
@@ -57,9 +38,9 @@ fn three(args: ProperList) -> Result<TwoOrThree, NoMemory>
     requires { length args.items ≡ 3 }
     ensures { IfOk result (λ x. AreArguments x args.items) }
 {
-    let first = argument(&args, 0)?;
-    let second = argument(&args, 1)?;
-    let third = argument(&args, 2)?;
+    let first = args.at(0)?;
+    let second = args.at(1)?;
+    let third = args.at(2)?;
     Ok(TwoOrThree::Three(first, second, third))
 }
 

@@ -11,7 +11,6 @@ ghost use Rattle.walk_rules.specs.Left.{left_seq, left_step, args_left, compares
 ghost use Rattle.walk_rules.specs.declared.state.AtSeq.TheVariants as Q;
 ghost use Rattle.walk_rules.specs.declared.state.AtStep.TheVariants as T;
 
-use crate::arguments::argument;
 use crate::state::{AtSeq, AtStep, Pending, Rests, State};
 use crate::ways::{asks_seq, ends_truth, fails, steps};
 use seq_base::Thrown;
@@ -245,7 +244,7 @@ fn next_pair(
     requires { at < length args.items }
     ensures { IfOk result (λ r. Takes (equals negated (plains (drop at args.items))) r) }
 {
-    let left = argument(&args, at)?;
+    let left = args.at(at)?;
     next_right(alloc, negated, args, at, left)
 }
 

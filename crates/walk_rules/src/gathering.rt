@@ -13,7 +13,7 @@ ghost use Rattle.walk_rules.specs.Left.{left_seq, left_step, made_of, Takes};
 ghost use Rattle.walk_rules.specs.declared.state.AtSeq.TheVariants as Q;
 ghost use Rattle.walk_rules.specs.declared.state.AtStep.TheVariants as T;
 
-use crate::arguments::{argument, only};
+use crate::arguments::only;
 use crate::resuming::{resume, start};
 use crate::shapes::is_vector;
 use crate::state::{AtSeq, AtStep, AtValue, Purpose, State};
@@ -78,8 +78,8 @@ pub(crate) fn begin_apply(alloc: Global, args: ProperList) -> Result<Next<State>
     if args.len() < 2 {
         return Ok(too_few(args));
     }
-    let function = argument(&args, 0)?;
-    let whole = argument(&args, args.len() - 1)?;
+    let function = args.at(0)?;
+    let whole = args.at(args.len() - 1)?;
     let kept = between(alloc, args)?;
     let purpose = Purpose::Arguments { function };
     Ok(start(alloc, AtSeq::Gather { kept, purpose }, whole)?)
@@ -100,7 +100,7 @@ fn between(alloc: Global, args: ProperList) -> Result<Gathered, NoMemory>
     let last = args.items.len() - 1;
     let mut kept = Gathered::with_room(alloc, last)?;
     for at in 1..last {
-        let one = argument(&args, at)?;
+        let one = args.at(at)?;
         kept = kept.and(one)?;
     }
     Ok(kept)

@@ -9,15 +9,15 @@ ghost use Rattle.seq_values.specs.Plain.{plain, plains};
 ghost use Rattle.walk_rules.specs.Left.{left_seq, Takes};
 ghost use Rattle.walk_rules.specs.declared.state.AtSeq.TheVariants as Q;
 
-use crate::arguments::{argument, pair};
+use crate::arguments::pair;
 use crate::listed::Shape;
 use crate::resuming::start;
-use crate::shapes::{is_cell, shape};
+use crate::shapes::shape;
 use crate::state::{AtSeq, State};
 use crate::ways::{ends, ends_made, fails};
 use seq_base::Thrown;
 use seq_turns::{
-    Made, Next, Proper, ProperList, Seen, one_more, put_first, seen_value, vector_made,
+    Made, Next, Proper, ProperList, Seen, one_more, part_of, put_first, seen_value, vector_made,
 };
 use seq_vector::NoMemory;
 use std::alloc::Global;
@@ -44,14 +44,14 @@ pub(crate) fn begin_conj(alloc: Global, args: ProperList) -> Result<Next<State>,
     if args.len() == 0 {
         return Ok(ends_empty_vector(args));
     }
-    let whole = argument(&args, 0)?;
+    let whole = args.at(0)?;
     if args.len() == 1 {
         return Ok(ends_with(whole, args));
     }
-    if is_cell(&whole.value) {
-        return Ok(start(alloc, AtSeq::Conj { args }, whole)?);
+    match part_of(&whole.value) {
+        Some(_) => Ok(start(alloc, AtSeq::Conj { args }, whole)?),
+        None => Ok(conj_all(alloc, whole, args)?),
     }
-    Ok(conj_all(alloc, whole, args)?)
 }
 
 /// A collection alone is itself.
@@ -83,7 +83,7 @@ fn conj_all(alloc: Global, whole: Proper, args: ProperList) -> Result<Next<State
 {
     let mut whole = whole;
     for at in 1..args.len() {
-        let one = argument(&args, at)?;
+        let one = args.at(at)?;
         match with_one(alloc, whole, one)? {
             Made::Value(more) => whole = more,
             Made::Thrown(why) => return Ok(fails(why)),

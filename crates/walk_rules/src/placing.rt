@@ -5,6 +5,7 @@ ghost use Rattle.seq_plan.specs.Cursors.{stands};
 ghost use Rattle.seq_plan.specs.Nodes.{first_of};
 ghost use Rattle.seq_plan.specs.Plan.{give, throw, plan_of};
 ghost use Rattle.seq_base.specs.declared.thrown.Thrown.TheVariants.{BadType};
+ghost use Rattle.seq_turns.specs.Arguments.{integer_of};
 ghost use Rattle.seq_turns.specs.Seen.{seen};
 ghost use Rattle.seq_values.specs.Plain.{plain, plains};
 ghost use Rattle.walk_rules.specs.Left.{default_of, left_seq, left_step, Takes};
@@ -14,12 +15,12 @@ ghost use Rattle.walk_rules.specs.declared.state.AtStep.TheVariants as T;
 use crate::arguments::{TwoOrThree, two_or_three};
 use crate::listed::{Listed, Shape};
 use crate::resuming::{resume, start};
-use crate::shapes::{number_in, shape};
+use crate::shapes::shape;
 use crate::state::{AtSeq, AtStep, State};
 use crate::ways::{ends, ends_nil, fails, steps};
 use seq_base::Thrown;
 use seq_plan::Cursor;
-use seq_turns::{Next, Proper, ProperList, Seen, first_of_cursor, step_cursor};
+use seq_turns::{Next, Proper, ProperList, Seen, first_of_cursor, number_of, step_cursor};
 use seq_vector::NoMemory;
 use std::alloc::Global;
 
@@ -50,6 +51,12 @@ fn nth_typed(
         Some(index) => Ok(nth_of(alloc, whole, index, default)?),
         None => Ok(mistyped(whole, default)),
     }
+}
+
+fn number_in(value: Proper) -> Option<i64>
+    ensures { result ≡ integer_of (plain value.value) }
+{
+    number_of(&value.value)
 }
 
 /// The place is no integer.

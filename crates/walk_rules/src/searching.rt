@@ -15,12 +15,11 @@ ghost use Rattle.walk_rules.specs.declared.state.AtValue.TheVariants as V;
 
 use crate::arguments::{only, pair};
 use crate::resuming::{resume, start};
-use crate::shapes::is_truthy;
 use crate::state::{AtSeq, AtStep, AtValue, Quest, State};
 use crate::ways::{asks_call, ends, ends_nil, ends_truth, fails, steps};
 use seq_base::Thrown;
 use seq_plan::Cursor;
-use seq_turns::{Next, Proper, ProperList, Rest, Seen, split_cursor, step_cursor};
+use seq_turns::{Next, Proper, ProperList, Rest, Seen, is_truthy, split_cursor, step_cursor};
 use seq_vector::NoMemory;
 use std::alloc::Global;
 

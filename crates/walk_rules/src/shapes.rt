@@ -1,10 +1,9 @@
 //! What the words that walk look at in a value.
 ghost use Rattle.std.specs.Prelude.{◌≡◌, true, false, IsTrue};
-ghost use Rattle.seq_plan.specs.Nodes.{is_truthy as truthy};
 ghost use Rattle.seq_values.specs.Plain.{plain};
 ghost use Rattle.seq_values.specs.WellFormed.{is_well_formed, is_well_formed_node};
 ghost use Rattle.seq_values.specs.declared.value.Value.TheVariants as V;
-ghost use Rattle.walk_rules.specs.Words.{number, is_another, is_reduced, is_vector as vector, is_cell as cell};
+ghost use Rattle.walk_rules.specs.Words.{is_another, is_reduced, is_vector as vector};
 ghost use Rattle.walk_rules.specs.Shapes.{IsShape};
 
 use crate::listed::{Listed, Shape};
@@ -78,36 +77,6 @@ pub(crate) fn of_node(node: Node) -> Proper
     }
 }
 
-/// The integer that a value is, and `None` for a value that is none.
-pub(crate) fn number_in(value: Proper) -> Option<i64>
-    ensures { result ≡ number (plain value.value) }
-{
-    number_of(&value.value)
-}
-
-fn number_of(value: &Value) -> Option<i64>
-    ensures { result ≡ number (plain value.now) }
-{
-    match value {
-        Value::Nil => None,
-        Value::Bool(_) => None,
-        Value::Int(number) => Some(*number),
-        Value::Keyword(_) => None,
-        Value::Text(_) => None,
-        Value::Vector { .. } => None,
-        Value::Function(_) => None,
-        Value::Node(node) => match node {
-            Node::Empty => None,
-            Node::Cons { .. } => None,
-            Node::Chunk { .. } => None,
-            Node::Range { .. } => None,
-            Node::VecSeq { .. } => None,
-        },
-        Value::Reduced { .. } => None,
-        Value::Cell(_) => None,
-    }
-}
-
 /// Whether a value is a vector.
 pub(crate) fn is_vector(value: &Value) -> bool
     ensures { result ≡ vector (plain value.now) }
@@ -129,53 +98,5 @@ pub(crate) fn is_vector(value: &Value) -> bool
         },
         Value::Reduced { .. } => false,
         Value::Cell(_) => false,
-    }
-}
-
-/// Whether a value is a part.
-pub(crate) fn is_cell(value: &Value) -> bool
-    ensures { result ≡ cell (plain value.now) }
-{
-    match value {
-        Value::Nil => false,
-        Value::Bool(_) => false,
-        Value::Int(_) => false,
-        Value::Keyword(_) => false,
-        Value::Text(_) => false,
-        Value::Vector { .. } => false,
-        Value::Function(_) => false,
-        Value::Node(node) => match node {
-            Node::Empty => false,
-            Node::Cons { .. } => false,
-            Node::Chunk { .. } => false,
-            Node::Range { .. } => false,
-            Node::VecSeq { .. } => false,
-        },
-        Value::Reduced { .. } => false,
-        Value::Cell(_) => true,
-    }
-}
-
-/// Whether a value counts as true: all but nil and false do.
-pub(crate) fn is_truthy(value: &Value) -> bool
-    ensures { result ≡ truthy (plain value.now) }
-{
-    match value {
-        Value::Nil => false,
-        Value::Bool(truth) => *truth,
-        Value::Int(_) => true,
-        Value::Keyword(_) => true,
-        Value::Text(_) => true,
-        Value::Vector { .. } => true,
-        Value::Function(_) => true,
-        Value::Node(node) => match node {
-            Node::Empty => true,
-            Node::Cons { .. } => true,
-            Node::Chunk { .. } => true,
-            Node::Range { .. } => true,
-            Node::VecSeq { .. } => true,
-        },
-        Value::Reduced { .. } => true,
-        Value::Cell(_) => true,
     }
 }
