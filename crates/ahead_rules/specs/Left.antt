@@ -91,16 +91,6 @@ wait_of (S.Value q) = a_value
 wait_of (S.Part q) = a_part
 wait_of S.Over = nothing
 
--- the number of a part that a value is
-abbrev pub part_in : M.Value ℕ → Option ℕ
-part_in (cell c) = Some c
-part_in _ = None
-
--- the integer that a value is
-abbrev pub number_in : M.Value ℕ → Option ℤ
-number_in (int n) = Some n
-number_in _ = None
-
 -- the one loop of this crate
 abbrev pub is_ahead : Loop → Bool
 is_ahead ahead_from = true

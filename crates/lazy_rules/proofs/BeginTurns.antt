@@ -17,7 +17,8 @@ use Rattle.seq_turns.specs.declared.next.Next.{Next}
 use Rattle.lazy_rows.specs.Table.{lazy_term}
 use Rattle.lazy_rows.specs.Terms.{map_all_rule, repeat_rule, seq_each}
 use Rattle.seq_turns.specs.declared.places.Seen.{Seen}
-use Rattle.lazy_rules.specs.Arguments.{number, counted, counted_with}
+use Rattle.lazy_rules.specs.Arguments.{counted, counted_with}
+use Rattle.seq_turns.specs.Arguments.{integer_of}
 use Rattle.lazy_rules.specs.Left.{purpose_op, apply_at, map_all_on, left_seq, seens, Takes}
 use Rattle.lazy_rules.specs.declared.state.AtSeq.TheVariants as Q
 use Rattle.lazy_rules.specs.declared.state.Group.{Group}

@@ -12,9 +12,6 @@ use Rattle.lazy_rules.specs.Left.{sift_op}
 use Rattle.lazy_rules.specs.declared.state.Keeps.{Keeps}
 use Rattle.lazy_rules.specs.declared.state.Keeps.TheVariants as K
 
-pub takes_two : (op : Op) (args : List Value) (a b : Value) → args ≡ a ∷ b ∷ [] → takes op (sight_of a ∷ sight_of b ∷ []) ≡ true → takes op (map sight_of args) ≡ true
-takes_two op args a b e h = ap (λ xs. takes op (map sight_of xs)) e ∙ h
-
 pub sift_takes : (k : Keeps) (op : Op) → op ≡ sift_op k → (a b : Sight) → takes op (a ∷ b ∷ []) ≡ true
 sift_takes K.Answers op e a b = ap (λ o. takes o (a ∷ b ∷ [])) e
 sift_takes K.Elements op e a b = ap (λ o. takes o (a ∷ b ∷ [])) e
