@@ -1,5 +1,5 @@
 -- Lists of well-formed values.
-use Rattle.std.proofs.Common.{◌≡◌, ℕ, zero, suc, ◌+◌, ◌<◌, ◌≤◌, nat_le, true, false, List, [], ◌∷◌, ◌++◌, map, length, drop, reverse, slice_get, Some, None, refl, ap, sym, subst, ◌∙◌, rules, arith, length-append}
+use Rattle.std.proofs.Common.{◌≡◌, ◌≢◌, ℕ, zero, suc, ◌+◌, ◌<◌, ◌≤◌, nat_le, true, false, List, [], ◌∷◌, ◌++◌, map, length, drop, reverse, slice_get, Some, None, refl, ap, sym, subst, ◌∙◌, rules, arith, length-append}
 use Rattle.std.specs.Prelude.{IsTrue}
 use Rattle.std.proofs.lemmas.List.{length-map, map-append, length-reverse, reverse-append}
 use Rattle.seq_values.specs.Model as M
@@ -90,6 +90,11 @@ pub term_same : (op : Op) (xs ys : List Value) (t : M.Term ℕ) → ys ≡ xs �
 term_same op xs ys t e h = h ∙ ap (λ zs. record { op = op; args = plains zs }) e
 
 -- ## Lists of one and two
+
+pub not_at_end : (xs : List Value) (at : ℕ) → at < length xs → drop at xs ≢ []
+not_at_end [] at b e = absurd (omega arith)
+not_at_end (x ∷ xs) zero b e = absurd cc
+not_at_end (x ∷ xs) (suc at) b e = not_at_end xs at (omega arith) e
 
 pub one_value : (xs : List Value) (x : Value) → length xs ≡ 1 → drop 0 xs ≡ x ∷ drop (0 + 1) xs → xs ≡ x ∷ []
 one_value [] x l e = absurd cc

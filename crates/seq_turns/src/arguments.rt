@@ -71,6 +71,7 @@ pub fn is_truthy(value: &Value) -> bool
 }
 
 impl ProperList {
+    #[tactic(auto, using(crate::proofs::Listing::not_at_end))]
     /// The value at a place that is there, with one more owner.
     pub fn at(&self, at: usize) -> Result<Proper, NoMemory>
         requires { at < length self.now.items }
