@@ -1,10 +1,8 @@
 //! A rule is answered turn by turn, until it ends.
 ghost use Rattle.std.specs.Prelude.{◌≡◌, IsTrue};
 ghost use Rattle.lazy_rules.specs.Left.{wait_of};
-ghost use Rattle.seq_plan.specs.Nodes.{found};
-ghost use Rattle.seq_turns.specs.Turning.{Fits, IsSeq, a_step, a_seq, a_value, a_part};
-ghost use Rattle.seq_values.specs.Plain.{plain};
-ghost use Rattle.seq_values.specs.WellFormed.{is_well_formed, are_well_formed};
+ghost use Rattle.seq_turns.specs.Turning.{Fits, a_seq, a_value, a_part};
+ghost use Rattle.seq_values.specs.WellFormed.{are_well_formed};
 ghost use Rattle.seq_values.specs.WellFormedTerms.{is_well_formed_term};
 
 use crate::asked::Asked;
@@ -30,6 +28,7 @@ fn told(alloc: Global, state: RuleState, answer: Answer) -> Result<Asked, Fail>
     }
 }
 
+#[tactic(auto, using(turn_lines::proofs::Fitting::seq_fits))]
 /// A `seq` is answered, unless the value has none.
 fn told_seq(
     alloc: Global,
@@ -49,6 +48,7 @@ fn told_seq(
     }
 }
 
+#[tactic(auto, using(turn_lines::proofs::Fitting::value_fits))]
 fn told_value(alloc: Global, state: RuleState, value: Proper) -> Result<Asked, Fail>
     requires { wait_of state.state ≡ a_value }
 {
@@ -76,6 +76,7 @@ fn told_part(alloc: Global, state: RuleState, id: CellId) -> Result<Asked, Fail>
     told_value(alloc, state, value)
 }
 
+#[tactic(auto, using(turn_lines::proofs::Fitting::part_fits))]
 /// The part is made, and its term is kept.
 fn told_made(
     alloc: Global,
@@ -94,6 +95,7 @@ fn told_made(
     }
 }
 
+#[tactic(auto, using(turn_lines::proofs::Fitting::step_fits))]
 /// What a rule asked is written down and answered. `None` at its end.
 fn answered(
     alloc: Global,
