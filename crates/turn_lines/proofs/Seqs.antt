@@ -1,7 +1,6 @@
 -- What `seq` gave is its own seq.
 use Rattle.std.proofs.Common.{◌≡◌, ℕ, refl, sym, subst}
 use Rattle.seq_values.specs.Model as M
-use Rattle.seq_plan.specs.Nodes.{found, now}
 use Rattle.seq_plan.proofs.CursorLemmas.{cursor_found}
 use Rattle.seq_turns.specs.Seen.{seen}
 use Rattle.seq_turns.specs.Turning.{IsSeq}
