@@ -96,22 +96,21 @@ fn told_made(
 }
 
 #[tactic(auto, using(turn_lines::proofs::Fitting::step_fits))]
-/// What a rule asked is written down and answered. `None` at its end.
+/// What a rule asked is answered, and `None` at its end. A part that is made has this number.
 fn answered(
     alloc: Global,
     asked: Asked,
-    record: &mut Record,
+    number: u32,
     keeper: &mut Keeper,
     elements: Elements,
 ) -> Result<Option<Asked>, Fail> {
     let Asked { state, turn } = asked;
-    record.note(&turn).map_err(full)?;
     let next = match turn {
         Turn::Visit => told(alloc, state, Answer::Done)?,
         Turn::Seq(value) => return told_seq(alloc, state, value, elements),
         Turn::Need(id) => told_part(alloc, state, id)?,
         Turn::Apply { function, args } => told_called(alloc, state, function, args)?,
-        Turn::Make { kind: _, term } => told_made(alloc, state, term, record.made(), keeper)?,
+        Turn::Make { kind: _, term } => told_made(alloc, state, term, number, keeper)?,
         Turn::Give(_) => return Ok(None),
         Turn::Throw(_) => return Ok(None),
     };
@@ -131,7 +130,8 @@ pub(crate) fn run(
     record.turn_over();
     let mut asked = told(alloc, state, Answer::Begin)?;
     for _ in 0..500 {
-        match answered(alloc, asked, record, keeper, elements)? {
+        record.note(&asked.turn).map_err(full)?;
+        match answered(alloc, asked, record.made(), keeper, elements)? {
             None => return Ok(()),
             Some(next) => asked = next,
         }
