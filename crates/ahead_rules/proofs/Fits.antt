@@ -1,9 +1,9 @@
 -- What the arguments of a term are, by what its operation takes.
-use Rattle.std.proofs.Common.{◌≡◌, ℕ, suc, ◌+◌, ◌&&◌, true, Bool, List, [], ◌∷◌, length, drop, Option, Some, None, refl, ap, sym, subst, ◌∙◌, rules, arith}
+use Rattle.std.proofs.Common.{◌≡◌, ℕ, suc, ◌+◌, true, List, [], ◌∷◌, length, drop, None, refl, ap, sym, subst, ◌∙◌, arith}
 use Rattle.std.specs.Prelude.{IsTrue}
 use Rattle.seq_values.specs.Model as M
 use Rattle.seq_values.specs.Model.{Value, nil, bool, int, keyword, text, vector, function, reduced, cell, empty, cons, chunk, range, vec_seq}
-use Rattle.seq_values.specs.Plain.{plain, plains, plain_term}
+use Rattle.seq_values.specs.Plain.{plain, plains}
 use Rattle.seq_values.specs.WellFormedTerms.{is_seq, is_sequence, takes, is_well_formed_term}
 use Rattle.seq_values.specs.declared.term.Term.{Term}
 use Rattle.seq_values.specs.declared.value.Value as V

@@ -1,6 +1,6 @@
 -- A turn that takes the node of the code takes that of the row, whose values are the same.
 use Rattle.std.specs.declared.result.Result.{Result}
-use Rattle.std.proofs.Common.{◌≡◌, ◌≢◌, ℕ, ◌+◌, ◌<◌, ◌≤◌, ℤ, pos, ◌+ℤ◌, ◌-ℤ◌, ◌<ℤ◌, ◌≤ℤ◌, int_le, int_lt, cond, true, false, List, [], ◌∷◌, ◌++◌, length, drop, Option, Some, None, Ok, Err, IfOk, refl, ap, sym, subst, ◌∙◌, rules, arith}
+use Rattle.std.proofs.Common.{◌≡◌, ◌≢◌, ℕ, ◌+◌, ◌<◌, ◌≤◌, ℤ, pos, ◌-ℤ◌, ◌<ℤ◌, ◌≤ℤ◌, int_le, int_lt, true, false, List, [], ◌∷◌, ◌++◌, length, drop, Option, Some, None, Ok, Err, IfOk, refl, ap, sym, ◌∙◌, rules, arith}
 use Rattle.seq_base.specs.declared.thrown.Thrown.TheVariants.{Arity, BadType, Index}
 use Rattle.seq_values.specs.Model as M
 use Rattle.seq_values.specs.Model.{nil, bool, int, keyword, text, vector, function, reduced, cell, empty, cons, chunk, range, vec_seq, no_values, ◌&◌}
@@ -12,10 +12,10 @@ use Rattle.seq_values.specs.declared.words.Kind.{Kind}
 use Rattle.seq_values.specs.declared.words.Kind.TheVariants.{Lazy, Future}
 use Rattle.seq_values.specs.declared.words.Op.{Op}
 use Rattle.seq_values.specs.declared.words.Op.TheVariants as O
-use Rattle.seq_plan.specs.Plan.{Plan, visit, ask, seq, call, go, give, throw, ahead_from}
+use Rattle.seq_plan.specs.Plan.{Plan, visit, ask, seq, go, give, throw, ahead_from}
 use Rattle.seq_plan.specs.Arguments.{at_least_one}
-use Rattle.seq_plan.specs.Nodes.{first_of, rest_of, chunk_of, if_nil, give_value, make_term, ask_each, found, now}
-use Rattle.seq_plan.specs.Lists.{lazily, first_and, items_and}
+use Rattle.seq_plan.specs.Nodes.{first_of, rest_of, chunk_of, give_value, make_term, ask_each, found, now}
+use Rattle.seq_plan.specs.Lists.{first_and, items_and}
 use Rattle.seq_plan.specs.Cursors.{stands}
 use Rattle.seq_plan.specs.WellFormed.{sights}
 use Rattle.seq_plan.specs.declared.cursor.Cursor.{Cursor}
@@ -23,9 +23,7 @@ use Rattle.seq_plan.proofs.CursorLemmas.{cursor_found}
 use Rattle.seq_turns.specs.Turning.{Takes}
 use Rattle.seq_turns.specs.declared.next.Next.{Next}
 use Rattle.seq_turns.specs.declared.proper.Proper.{Proper}
-use Rattle.seq_turns.specs.declared.proper.ProperList.{ProperList}
-use Rattle.seq_turns.specs.declared.proper.Gathered.{Gathered}
-use Rattle.seq_turns.proofs.Taking.{takes_same, takes_round, takes_from, takes_found, some_cursor}
+use Rattle.seq_turns.proofs.Taking.{takes_same, takes_round, takes_found, some_cursor}
 use Rattle.ahead_rows.specs.Table.{ask_of, step, start_each, rets_on, derefs_on, ahead_rule, seque_rule, seque_call, pmap_call, near_rule, ahead_term, ahead_call}
 use Rattle.ahead_rules.specs.Left.{running, left_seq, left_step, left_value, left_part, stepped}
 use Rattle.seq_turns.specs.Arguments.{part_in, integer_of}

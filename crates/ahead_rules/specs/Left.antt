@@ -1,5 +1,5 @@
 -- The plan that a rule has left, by where it stands and what it is told. Each clause is what its row says after the node that it waits for.
-use Rattle.std.specs.Prelude.{ℕ, ◌+◌, ℤ, pos, ◌-ℤ◌, int_le, cond, Bool, true, false, List, [], ◌∷◌, ◌++◌, drop, Option, Some, None}
+use Rattle.std.specs.Prelude.{ℕ, ◌+◌, pos, ◌-ℤ◌, int_le, cond, Bool, true, false, [], ◌∷◌, ◌++◌, drop, Option, Some, None}
 use Rattle.seq_base.specs.declared.thrown.Thrown.TheVariants.{BadType}
 use Rattle.seq_values.specs.declared.words.Kind.TheVariants.{Lazy, Future}
 use Rattle.seq_values.specs.declared.words.Op.TheVariants as O

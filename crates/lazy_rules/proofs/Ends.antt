@@ -1,5 +1,5 @@
 -- What is left of a list from a place on.
-use Rattle.std.proofs.Common.{◌≡◌, ℕ, zero, suc, ◌<◌, ◌≤◌, List, [], ◌∷◌, length, drop, slice_get, Some, ap, arith}
+use Rattle.std.proofs.Common.{◌≡◌, ℕ, zero, suc, ◌≤◌, List, [], ◌∷◌, length, drop, slice_get, Some, ap, arith}
 use Rattle.seq_values.specs.Plain.{plain, plains}
 use Rattle.lazy_rules.specs.Arguments.{first_number}
 use Rattle.seq_turns.specs.Arguments.{integer_of}

@@ -1,8 +1,7 @@
 -- What the calls of words make, and give.
-use Rattle.std.proofs.Common.{◌≡◌, ◌≢◌, ℕ, ◌+◌, ◌<◌, ◌≤◌, ℤ, pos, ◌<ℤ◌, int_lt, cond, Bool, true, false, Option, if◌then◌else◌, List, [], ◌∷◌, map, length, drop, Some, None, refl, ap, sym, ◌∙◌, arith, rules}
+use Rattle.std.proofs.Common.{◌≡◌, ◌≢◌, ℕ, ◌+◌, ◌<◌, ◌≤◌, ℤ, pos, int_lt, Bool, true, false, Option, if◌then◌else◌, List, [], ◌∷◌, map, length, drop, Some, None, refl, ap, sym, ◌∙◌, arith, rules}
 use Rattle.std.specs.Prelude.{IsTrue}
 use Rattle.std.proofs.lemmas.Int.{ints}
-use Rattle.std.proofs.lemmas.List.{length-map}
 use Rattle.seq_base.specs.declared.thrown.Thrown.{Thrown}
 use Rattle.seq_base.specs.declared.thrown.Thrown.TheVariants.{Arity, BadType, Index}
 use Rattle.seq_values.specs.Model as M
@@ -30,7 +29,7 @@ use Rattle.seq_turns.specs.declared.made.Made.TheVariants as D
 use Rattle.seq_turns.specs.declared.next.Next.{Next}
 use Rattle.seq_turns.specs.declared.proper.Proper.{Proper}
 use Rattle.lazy_rows.specs.Calls.{give_stage, with_function, map_call, remove_call, with_count, partition_call, iterate_call, range_call, repeat_call, cycle_call}
-use Rattle.lazy_rules.specs.Arguments.{counted, counted_with, first_number}
+use Rattle.lazy_rules.specs.Arguments.{counted, first_number}
 use Rattle.seq_turns.specs.Arguments.{integer_of}
 use Rattle.lazy_rules.specs.Left.{Takes}
 use Rattle.lazy_rules.specs.declared.state.State.{State}

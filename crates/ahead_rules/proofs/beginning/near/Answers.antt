@@ -1,6 +1,6 @@
 use Rattle.std.proofs.Common.{◌∷◌, []}
 use Rattle.seq_values.specs.declared.words.Op.TheVariants as O
-use Rattle.std.proofs.Common.{ap, sym, ◌∙◌, true, ◌≡◌}
+use Rattle.std.proofs.Common.{ap, sym, ◌∙◌}
 use Rattle.seq_values.specs.Model as M
 use Rattle.seq_values.specs.Plain.{plains}
 use Rattle.seq_plan.specs.WellFormed.{sights}
