@@ -1,9 +1,9 @@
 -- What the arguments of a term are, by what its operation takes.
-use Rattle.std.proofs.Common.{◌≡◌, ℕ, suc, ◌+◌, ◌&&◌, true, Bool, List, [], ◌∷◌, length, drop, Option, Some, None, refl, ap, sym, subst, ◌∙◌, rules, arith}
+use Rattle.std.proofs.Common.{◌≡◌, ℕ, suc, ◌+◌, true, List, [], ◌∷◌, length, drop, None, refl, ap, sym, subst, ◌∙◌, arith}
 use Rattle.std.specs.Prelude.{IsTrue}
 use Rattle.seq_values.specs.Model as M
 use Rattle.seq_values.specs.Model.{Value, nil, bool, int, keyword, text, vector, function, reduced, cell, empty, cons, chunk, range, vec_seq}
-use Rattle.seq_values.specs.Plain.{plain, plains, plain_term}
+use Rattle.seq_values.specs.Plain.{plain, plains}
 use Rattle.seq_values.specs.WellFormedTerms.{is_seq, is_sequence, takes, is_well_formed_term}
 use Rattle.seq_values.specs.declared.term.Term.{Term}
 use Rattle.seq_values.specs.declared.value.Value as V
@@ -12,7 +12,7 @@ use Rattle.seq_plan.specs.WellFormed.{sight, sights, WellTerm, well_term}
 use Rattle.seq_plan.proofs.FitLemmas.{both, first_of_both, second_of_both}
 use Rattle.seq_plan.proofs.WellNodes.{seq_is_sequence}
 use Rattle.seq_plan.proofs.WellValues.{term_formed}
-use Rattle.ahead_rules.specs.Left.{part_in}
+use Rattle.seq_turns.specs.Arguments.{part_in}
 
 by_well : {t : M.Term ℕ} → WellTerm t → takes t.op (sights (M.values t.args)) ≡ true
 by_well (well_term w e) = e
@@ -140,17 +140,6 @@ step_values (a ∷ b ∷ c ∷ []) x ys e p = absurd cc
 step_values (a ∷ b ∷ c ∷ d ∷ f ∷ fs) x ys e p = absurd cc
 
 -- arguments read place by place
-pub one_read : (xs : List V.Value) (x : V.Value) → length xs ≡ 1 → drop 0 xs ≡ x ∷ drop (0 + 1) xs → xs ≡ x ∷ []
-one_read (a ∷ []) x l e = e
-one_read [] x l e = absurd (omega (arith, l))
-one_read (a ∷ b ∷ xs) x l e = absurd (omega (arith, l))
-
-pub two_read : (xs : List V.Value) (x y : V.Value) → length xs ≡ 2 → drop 0 xs ≡ x ∷ drop (0 + 1) xs → drop 1 xs ≡ y ∷ drop (1 + 1) xs → xs ≡ x ∷ y ∷ []
-two_read (a ∷ b ∷ []) x y l e f = let p : a ≡ x = cc in let q : b ≡ y = cc in rw (p, q) refl
-two_read [] x y l e f = absurd (omega (arith, l))
-two_read (a ∷ []) x y l e f = absurd (omega (arith, l))
-two_read (a ∷ b ∷ c ∷ xs) x y l e f = absurd (omega (arith, l))
-
 pub four_read : (xs : List V.Value) (x y z u : V.Value) → length xs ≡ 4 → drop 0 xs ≡ x ∷ drop (0 + 1) xs → drop 1 xs ≡ y ∷ drop (1 + 1) xs → drop 2 xs ≡ z ∷ drop (2 + 1) xs → drop 3 xs ≡ u ∷ drop (3 + 1) xs → xs ≡ x ∷ y ∷ z ∷ u ∷ []
 four_read (a ∷ b ∷ c ∷ d ∷ []) x y z u l e f g h = let p : a ≡ x = cc in let q : b ≡ y = cc in let r : c ≡ z = cc in let s : d ≡ u = cc in rw (p, q, r, s) refl
 four_read [] x y z u l e f g h = absurd (omega (arith, l))

@@ -1,6 +1,6 @@
 -- A turn that takes the node of the code takes that of the row, whose values are the same.
 use Rattle.std.specs.declared.result.Result.{Result}
-use Rattle.std.proofs.Common.{◌≡◌, ◌≢◌, ℕ, ◌+◌, ◌<◌, ◌≤◌, ℤ, pos, ◌+ℤ◌, ◌-ℤ◌, ◌<ℤ◌, ◌≤ℤ◌, int_le, int_lt, cond, true, false, List, [], ◌∷◌, ◌++◌, length, drop, Option, Some, None, Ok, Err, IfOk, refl, ap, sym, subst, ◌∙◌, rules, arith}
+use Rattle.std.proofs.Common.{◌≡◌, ◌≢◌, ℕ, ◌+◌, ◌<◌, ◌≤◌, ℤ, pos, ◌-ℤ◌, ◌<ℤ◌, ◌≤ℤ◌, int_le, int_lt, true, false, List, [], ◌∷◌, ◌++◌, length, drop, Option, Some, None, Ok, Err, IfOk, refl, ap, sym, ◌∙◌, rules, arith}
 use Rattle.seq_base.specs.declared.thrown.Thrown.TheVariants.{Arity, BadType, Index}
 use Rattle.seq_values.specs.Model as M
 use Rattle.seq_values.specs.Model.{nil, bool, int, keyword, text, vector, function, reduced, cell, empty, cons, chunk, range, vec_seq, no_values, ◌&◌}
@@ -12,10 +12,10 @@ use Rattle.seq_values.specs.declared.words.Kind.{Kind}
 use Rattle.seq_values.specs.declared.words.Kind.TheVariants.{Lazy, Future}
 use Rattle.seq_values.specs.declared.words.Op.{Op}
 use Rattle.seq_values.specs.declared.words.Op.TheVariants as O
-use Rattle.seq_plan.specs.Plan.{Plan, visit, ask, seq, call, go, give, throw, ahead_from}
+use Rattle.seq_plan.specs.Plan.{Plan, visit, ask, seq, go, give, throw, ahead_from}
 use Rattle.seq_plan.specs.Arguments.{at_least_one}
-use Rattle.seq_plan.specs.Nodes.{first_of, rest_of, chunk_of, if_nil, give_value, make_term, ask_each, found, now}
-use Rattle.seq_plan.specs.Lists.{lazily, first_and, items_and}
+use Rattle.seq_plan.specs.Nodes.{first_of, rest_of, chunk_of, give_value, make_term, ask_each, found, now}
+use Rattle.seq_plan.specs.Lists.{first_and, items_and}
 use Rattle.seq_plan.specs.Cursors.{stands}
 use Rattle.seq_plan.specs.WellFormed.{sights}
 use Rattle.seq_plan.specs.declared.cursor.Cursor.{Cursor}
@@ -23,11 +23,10 @@ use Rattle.seq_plan.proofs.CursorLemmas.{cursor_found}
 use Rattle.seq_turns.specs.Turning.{Takes}
 use Rattle.seq_turns.specs.declared.next.Next.{Next}
 use Rattle.seq_turns.specs.declared.proper.Proper.{Proper}
-use Rattle.seq_turns.specs.declared.proper.ProperList.{ProperList}
-use Rattle.seq_turns.specs.declared.proper.Gathered.{Gathered}
-use Rattle.seq_turns.proofs.Taking.{takes_same, takes_round, takes_from, takes_found, some_cursor}
+use Rattle.seq_turns.proofs.Taking.{takes_same, takes_round, takes_found, some_cursor}
 use Rattle.ahead_rows.specs.Table.{ask_of, step, start_each, rets_on, derefs_on, ahead_rule, seque_rule, seque_call, pmap_call, near_rule, ahead_term, ahead_call}
-use Rattle.ahead_rules.specs.Left.{running, left_seq, left_step, left_value, left_part, stepped, part_in, number_in}
+use Rattle.ahead_rules.specs.Left.{running, left_seq, left_step, left_value, left_part, stepped}
+use Rattle.seq_turns.specs.Arguments.{part_in, integer_of}
 use Rattle.ahead_rules.specs.declared.state.State.{State}
 use Rattle.ahead_rules.specs.declared.state.Size.{Size}
 use Rattle.ahead_rules.specs.declared.state.Sequence.{Sequence}
@@ -263,7 +262,7 @@ near_takes a c x rest p args r e1 e2 e3 e4 h =
 
 -- ## Beginning
 
-number_is : (v : M.Value ℕ) (n : ℤ) → number_in v ≡ Some n → v ≡ int n
+number_is : (v : M.Value ℕ) (n : ℤ) → integer_of v ≡ Some n → v ≡ int n
 number_is (int m) n e = let p : m ≡ n = cc in ap int p
 number_is (cell c) m e = absurd cc
 number_is nil m e = absurd cc
@@ -279,10 +278,10 @@ number_is (chunk xs r) m e = absurd cc
 number_is (range a b c) m e = absurd cc
 number_is (vec_seq xs a) m e = absurd cc
 
-pub seque_number : (v c : M.Value ℕ) (n : ℤ) (r : Next State) → number_in v ≡ Some n → Takes running (at_least_one n (seque_rule n c)) r → Takes running (seque_call (v ∷ c ∷ [])) r
+pub seque_number : (v c : M.Value ℕ) (n : ℤ) (r : Next State) → integer_of v ≡ Some n → Takes running (at_least_one n (seque_rule n c)) r → Takes running (seque_call (v ∷ c ∷ [])) r
 seque_number v c n r e h = takes_same running (ap (λ x. seque_call (x ∷ c ∷ [])) (sym (number_is v n e))) h
 
-no_number_call : (v c : M.Value ℕ) → number_in v ≡ None → seque_call (v ∷ c ∷ []) ≡ throw BadType
+no_number_call : (v c : M.Value ℕ) → integer_of v ≡ None → seque_call (v ∷ c ∷ []) ≡ throw BadType
 no_number_call (int m) c e = absurd cc
 no_number_call (cell m) c e = refl
 no_number_call nil c e = refl
@@ -298,13 +297,13 @@ no_number_call (chunk xs r) c e = refl
 no_number_call (range a b d) c e = refl
 no_number_call (vec_seq xs a) c e = refl
 
-pub seque_no_number : (v c : M.Value ℕ) (r : Next State) → number_in v ≡ None → Takes running (throw BadType) r → Takes running (seque_call (v ∷ c ∷ [])) r
+pub seque_no_number : (v c : M.Value ℕ) (r : Next State) → integer_of v ≡ None → Takes running (throw BadType) r → Takes running (seque_call (v ∷ c ∷ [])) r
 seque_no_number v c r e h = takes_same running (sym (no_number_call v c e)) h
 
-pub ahead_number : (size : ℕ) (v c : M.Value ℕ) (n : ℤ) (r : Next State) → number_in v ≡ Some n → Takes running (ahead_rule n c) r → Takes running (ahead_term size O.Ahead (v ∷ c ∷ [])) r
+pub ahead_number : (size : ℕ) (v c : M.Value ℕ) (n : ℤ) (r : Next State) → integer_of v ≡ Some n → Takes running (ahead_rule n c) r → Takes running (ahead_term size O.Ahead (v ∷ c ∷ [])) r
 ahead_number size v c n r e h = takes_same running (ap (λ x. ahead_term size O.Ahead (x ∷ c ∷ [])) (sym (number_is v n e))) h
 
-no_number_term : (size : ℕ) (v c : M.Value ℕ) → number_in v ≡ None → ahead_term size O.Ahead (v ∷ c ∷ []) ≡ throw BadType
+no_number_term : (size : ℕ) (v c : M.Value ℕ) → integer_of v ≡ None → ahead_term size O.Ahead (v ∷ c ∷ []) ≡ throw BadType
 no_number_term size (int m) c e = absurd cc
 no_number_term size (cell m) c e = refl
 no_number_term size nil c e = refl
@@ -320,7 +319,7 @@ no_number_term size (chunk xs r) c e = refl
 no_number_term size (range a b d) c e = refl
 no_number_term size (vec_seq xs a) c e = refl
 
-pub ahead_no_number : (size : ℕ) (v c : M.Value ℕ) (r : Next State) → number_in v ≡ None → Takes running (throw BadType) r → Takes running (ahead_term size O.Ahead (v ∷ c ∷ [])) r
+pub ahead_no_number : (size : ℕ) (v c : M.Value ℕ) (r : Next State) → integer_of v ≡ None → Takes running (throw BadType) r → Takes running (ahead_term size O.Ahead (v ∷ c ∷ [])) r
 ahead_no_number size v c r e h = takes_same running (sym (no_number_term size v c e)) h
 
 pub near_part_takes : (size : ℕ) (c a : M.Value ℕ) (m : ℕ) (r : Next State) → part_in a ≡ Some m → Takes running (near_rule c (cell m)) r → Takes running (ahead_term size O.Near (c ∷ a ∷ [])) r

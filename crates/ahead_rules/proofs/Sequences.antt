@@ -1,8 +1,8 @@
 -- What comes after an element, or after a chunk, may be the collection of a part; and terms of arguments that fit are well formed.
-use Rattle.std.proofs.Common.{◌≡◌, ℕ, ℤ, ◌<ℤ◌, zero, suc, ◌+◌, ◌<◌, ◌&&◌, max, int_lt, true, Bool, List, [], ◌∷◌, ◌++◌, length, take, drop, Option, Some, None, length-append, refl, ap, sym, subst, ◌∙◌, rules, arith}
+use Rattle.std.proofs.Common.{◌≡◌, ℕ, zero, suc, ◌+◌, ◌<◌, true, List, [], ◌∷◌, ◌++◌, length, drop, Option, Some, length-append, refl, ap, sym, subst, ◌∙◌, arith}
 use Rattle.std.specs.Prelude.{IsTrue}
 use Rattle.seq_values.specs.Model as M
-use Rattle.seq_values.specs.Plain.{plain, plains}
+use Rattle.seq_values.specs.Plain.{plains}
 use Rattle.seq_values.specs.WellFormed.{is_well_formed, are_well_formed}
 use Rattle.seq_values.specs.WellFormedTerms.{is_seq, is_sequence, takes, is_well_formed_term}
 use Rattle.seq_values.specs.declared.term.Term.{Term}

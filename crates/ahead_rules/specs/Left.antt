@@ -1,5 +1,5 @@
 -- The plan that a rule has left, by where it stands and what it is told. Each clause is what its row says after the node that it waits for.
-use Rattle.std.specs.Prelude.{ℕ, ◌+◌, ℤ, pos, ◌-ℤ◌, int_le, cond, Bool, true, false, List, [], ◌∷◌, ◌++◌, drop, Option, Some, None}
+use Rattle.std.specs.Prelude.{ℕ, ◌+◌, pos, ◌-ℤ◌, int_le, cond, Bool, true, false, [], ◌∷◌, ◌++◌, drop, Option, Some, None}
 use Rattle.seq_base.specs.declared.thrown.Thrown.TheVariants.{BadType}
 use Rattle.seq_values.specs.declared.words.Kind.TheVariants.{Lazy, Future}
 use Rattle.seq_values.specs.declared.words.Op.TheVariants as O
@@ -90,16 +90,6 @@ wait_of (S.Step q) = a_step
 wait_of (S.Value q) = a_value
 wait_of (S.Part q) = a_part
 wait_of S.Over = nothing
-
--- the number of a part that a value is
-abbrev pub part_in : M.Value ℕ → Option ℕ
-part_in (cell c) = Some c
-part_in _ = None
-
--- the integer that a value is
-abbrev pub number_in : M.Value ℕ → Option ℤ
-number_in (int n) = Some n
-number_in _ = None
 
 -- the one loop of this crate
 abbrev pub is_ahead : Loop → Bool

@@ -1,5 +1,5 @@
 //! How each word and each term begins.
-ghost use Rattle.std.specs.Prelude.{None, Some, ◌≢◌, ◌≡◌, ℕ, ◌+◌, ◌<◌, [], ◌∷◌, drop, length, IfOk, true};
+ghost use Rattle.std.specs.Prelude.{None, Some, ◌≢◌, ◌≡◌, ℕ, ◌<◌, [], ◌∷◌, length, IfOk, true};
 ghost use Rattle.seq_base.specs.declared.thrown.Thrown.TheVariants.{BadType};
 ghost use Rattle.seq_plan.specs.Plan.{throw};
 ghost use Rattle.seq_plan.specs.WellFormed.{sights};
@@ -9,7 +9,8 @@ ghost use Rattle.seq_values.specs.Plain.{plain, plains};
 ghost use Rattle.seq_values.specs.WellFormedTerms.{takes};
 ghost use Rattle.seq_values.specs.declared.words.Op.TheVariants as O;
 ghost use Rattle.ahead_rows.specs.Table.{pmap_call, seque_call, rets_rule, derefs_rule, ahead_term, ahead_call};
-ghost use Rattle.ahead_rules.specs.Left.{running, left_begin, part_in};
+ghost use Rattle.ahead_rules.specs.Left.{running, left_begin};
+ghost use Rattle.seq_turns.specs.Arguments.{part_in};
 ghost use Rattle.ahead_rules.specs.declared.state.AtBegin.TheVariants as B;
 
 use crate::asking::derefs_at;
@@ -24,44 +25,28 @@ use seq_values::{Builtin, CellId, Op, Term};
 use seq_vector::NoMemory;
 use std::alloc::Global;
 
-/// Two arguments.
-#[derive(Drop)]
-struct Two {
-    first: Proper,
-    second: Proper,
-}
-
-/// The argument at a place.
-fn argument(args: &ProperList, at: usize) -> Result<Proper, NoMemory>
-    requires { at < length args.now.items }
-    ensures { IfOk result (λ v. drop at args.now.items ≡ v.value ∷ drop (at + 1) args.now.items) }
+/// The only argument, where there is one.
+fn only_argument(args: &ProperList) -> Result<Proper, NoMemory>
+    requires { length args.now.items ≡ 1 }
+    ensures { IfOk result (λ v. args.now.items ≡ v.value ∷ []) }
 {
-    let found = args.get(at)?;
-    match found {
+    let value = args.only()?;
+    match value {
         Some(value) => Ok(value),
         None => unreachable!(),
     }
 }
 
-#[tactic(auto, using(crate::proofs::Fits::one_read))]
-/// The only argument.
-fn only_argument(args: &ProperList) -> Result<Proper, NoMemory>
-    requires { length args.now.items ≡ 1 }
-    ensures { IfOk result (λ v. args.now.items ≡ v.value ∷ []) }
-{
-    let value = argument(args, 0)?;
-    Ok(value)
-}
-
-#[tactic(auto, using(crate::proofs::Fits::two_read))]
-/// The two arguments.
-fn two_arguments(args: &ProperList) -> Result<Two, NoMemory>
+/// The two arguments, where there are two.
+fn two_arguments(args: &ProperList) -> Result<(Proper, Proper), NoMemory>
     requires { length args.now.items ≡ 2 }
-    ensures { IfOk result (λ p. args.now.items ≡ p.first.value ∷ p.second.value ∷ []) }
+    ensures { IfOk result (λ p. args.now.items ≡ p.0.value ∷ p.1.value ∷ []) }
 {
-    let first = argument(args, 0)?;
-    let second = argument(args, 1)?;
-    Ok(Two { first, second })
+    let pair = args.pair()?;
+    match pair {
+        Some(pair) => Ok(pair),
+        None => unreachable!(),
+    }
 }
 
 /// The same, and the arguments are let go.
@@ -124,24 +109,28 @@ fn word_begins(
 fn pmap(alloc: Global, args: &ProperList, processors: u32) -> Result<Next<State>, NoMemory>
     ensures { IfOk result (λ r. Takes running (pmap_call processors (plains args.now.items)) r) }
 {
-    if args.len() != 2 {
-        return Ok(throws(State::Over, Thrown::Arity));
+    let pair = args.pair()?;
+    match pair {
+        None => Ok(throws(State::Over, Thrown::Arity)),
+        Some(pair) => {
+            let next = pmap_begins(alloc, processors, pair.0, pair.1)?;
+            Ok(next)
+        }
     }
-    let pair = two_arguments(args)?;
-    let next = pmap_begins(alloc, processors, pair.first, pair.second)?;
-    Ok(next)
 }
 
 /// `seque`
 fn seque(alloc: Global, args: &ProperList) -> Result<Next<State>, NoMemory>
     ensures { IfOk result (λ r. Takes running (seque_call (plains args.now.items)) r) }
 {
-    if args.len() != 2 {
-        return Ok(throws(State::Over, Thrown::Arity));
+    let pair = args.pair()?;
+    match pair {
+        None => Ok(throws(State::Over, Thrown::Arity)),
+        Some(pair) => {
+            let next = seque_of(alloc, pair.0, pair.1)?;
+            Ok(next)
+        }
     }
-    let pair = two_arguments(args)?;
-    let next = seque_of(alloc, pair.first, pair.second)?;
-    Ok(next)
 }
 
 fn seque_of(alloc: Global, count: Proper, source: Proper) -> Result<Next<State>, NoMemory>
@@ -190,7 +179,7 @@ fn rets(alloc: Global, args: &ProperList, chunk: u32) -> Result<Next<State>, NoM
     ensures { IfOk result (λ r. Takes running (ahead_term chunk O.Rets (plains args.now.items)) r) }
 {
     let pair = two_arguments(args)?;
-    let next = rets_begins(alloc, pair.first, pair.second, chunk)?;
+    let next = rets_begins(alloc, pair.0, pair.1, chunk)?;
     Ok(next)
 }
 
@@ -217,10 +206,10 @@ fn step(alloc: Global, args: &ProperList) -> Result<Next<State>, NoMemory>
     requires { takes O.Step (sights (M.values (plains args.now.items))) ≡ true }
     ensures { IfOk result (λ r. (size : ℕ) → Takes running (ahead_term size O.Step (plains args.now.items)) r) }
 {
-    let element = argument(args, 0)?;
-    let others = argument(args, 1)?;
-    let values = argument(args, 2)?;
-    let further = argument(args, 3)?;
+    let element = args.at(0)?;
+    let others = args.at(1)?;
+    let values = args.at(2)?;
+    let further = args.at(3)?;
     let others = Sequence {
         value: others.value,
     };
@@ -261,7 +250,7 @@ fn call(alloc: Global, args: &ProperList) -> Result<Next<State>, NoMemory>
     ensures { IfOk result (λ r. (size : ℕ) → Takes running (ahead_term size O.Call (plains args.now.items)) r) }
 {
     let pair = two_arguments(args)?;
-    let next = call_begins(alloc, pair.first, pair.second)?;
+    let next = call_begins(alloc, pair.0, pair.1)?;
     Ok(next)
 }
 
@@ -271,7 +260,7 @@ fn ahead(args: &ProperList) -> Result<Next<State>, NoMemory>
     ensures { IfOk result (λ r. (size : ℕ) → Takes running (ahead_term size O.Ahead (plains args.now.items)) r) }
 {
     let pair = two_arguments(args)?;
-    let next = ahead_counted(pair.first, pair.second)?;
+    let next = ahead_counted(pair.0, pair.1)?;
     Ok(next)
 }
 
@@ -303,7 +292,7 @@ fn near(alloc: Global, args: &ProperList) -> Result<Next<State>, NoMemory>
     ensures { IfOk result (λ r. (size : ℕ) → Takes running (ahead_term size O.Near (plains args.now.items)) r) }
 {
     let pair = two_arguments(args)?;
-    let next = near_of(alloc, pair.first, pair.second)?;
+    let next = near_of(alloc, pair.0, pair.1)?;
     Ok(next)
 }
 

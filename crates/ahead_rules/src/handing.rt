@@ -8,15 +8,16 @@ ghost use Rattle.seq_turns.specs.Turning.{Takes};
 ghost use Rattle.seq_values.specs.Model as M;
 ghost use Rattle.seq_values.specs.Plain.{plain, plains, plain_term};
 ghost use Rattle.seq_values.specs.WellFormedTerms.{is_seq, takes, is_well_formed_term};
-ghost use Rattle.ahead_rules.specs.Left.{running, left_part, part_in, number_in};
+ghost use Rattle.ahead_rules.specs.Left.{running, left_part};
+ghost use Rattle.seq_turns.specs.Arguments.{part_in, integer_of};
 
 use crate::state::{AtPart, Sequence, State};
 use seq_plan::Cursor;
 use seq_turns::{
-    Gathered, Next, Proper, ProperList, Seen, first_of_cursor, makes, rest_value, seen_value,
-    step_cursor,
+    Gathered, Next, Proper, ProperList, Seen, first_of_cursor, makes, number_of, part_of,
+    rest_value, seen_value, step_cursor,
 };
-use seq_values::{CellId, Kind, Node, Op, Term, Value};
+use seq_values::{CellId, Kind, Op, Term};
 use seq_vector::{NoMemory, Share};
 use std::alloc::Global;
 
@@ -82,30 +83,6 @@ pub(crate) fn given_seq(alloc: Global, what: Seen) -> Result<Proper, NoMemory>
     Ok(value)
 }
 
-/// The part that a value is, and `None` where it is none.
-fn part_of(value: &Value) -> Option<CellId>
-    ensures { result ≡ part_in (plain value.now) }
-{
-    match value {
-        Value::Nil => None,
-        Value::Bool(_) => None,
-        Value::Int(_) => None,
-        Value::Keyword(_) => None,
-        Value::Text(_) => None,
-        Value::Vector { .. } => None,
-        Value::Function(_) => None,
-        Value::Node(node) => match node {
-            Node::Empty => None,
-            Node::Cons { .. } => None,
-            Node::Chunk { .. } => None,
-            Node::Range { .. } => None,
-            Node::VecSeq { .. } => None,
-        },
-        Value::Reduced { .. } => None,
-        Value::Cell(id) => Some(*id),
-    }
-}
-
 /// The part that a value is, and `None` where it is none. The value is let go.
 pub(crate) fn as_part(value: Proper) -> Option<CellId>
     ensures { result ≡ part_in (plain value.value) }
@@ -113,33 +90,9 @@ pub(crate) fn as_part(value: Proper) -> Option<CellId>
     part_of(&value.value)
 }
 
-/// The integer that a value is, and `None` where it is none.
-fn number_of(value: &Value) -> Option<i64>
-    ensures { result ≡ number_in (plain value.now) }
-{
-    match value {
-        Value::Nil => None,
-        Value::Bool(_) => None,
-        Value::Int(number) => Some(*number),
-        Value::Keyword(_) => None,
-        Value::Text(_) => None,
-        Value::Vector { .. } => None,
-        Value::Function(_) => None,
-        Value::Node(node) => match node {
-            Node::Empty => None,
-            Node::Cons { .. } => None,
-            Node::Chunk { .. } => None,
-            Node::Range { .. } => None,
-            Node::VecSeq { .. } => None,
-        },
-        Value::Reduced { .. } => None,
-        Value::Cell(_) => None,
-    }
-}
-
 /// The integer that a value is, and `None` where it is none. The value is let go.
 pub(crate) fn as_number(value: Proper) -> Option<i64>
-    ensures { result ≡ number_in (plain value.value) }
+    ensures { result ≡ integer_of (plain value.value) }
 {
     number_of(&value.value)
 }

@@ -1,5 +1,5 @@
 -- Turns of a function that is called with elements.
-use Rattle.std.proofs.Common.{◌≡◌, ℕ, Bool, true, false, List, [], ◌∷◌, ◌++◌, cond, Option, Some, None, refl, ap, sym, ◌∙◌}
+use Rattle.std.proofs.Common.{◌≡◌, ℕ, List, [], ◌∷◌, ◌++◌, Option, Some, None, refl, ap, sym, ◌∙◌}
 use Rattle.seq_values.specs.Model as M
 use Rattle.seq_values.specs.Plain.{plain, plains, plain_term}
 use Rattle.seq_values.specs.declared.term.Term.{Term}
@@ -8,7 +8,7 @@ use Rattle.seq_values.specs.declared.words.Op.{Op}
 use Rattle.seq_values.specs.declared.words.Op.TheVariants as O
 use Rattle.seq_values.specs.declared.words.Kind.TheVariants.{Lazy}
 use Rattle.seq_plan.specs.Plan.{Plan, seq, call, make, give, drop_while_from}
-use Rattle.seq_plan.specs.Nodes.{first_of, rest_of, chunk_of, is_truthy, is_nil, if_nil, call_each}
+use Rattle.seq_plan.specs.Nodes.{first_of, rest_of, chunk_of, if_nil, call_each}
 use Rattle.seq_plan.specs.Lists.{items_and, lazily}
 use Rattle.seq_plan.specs.Cursors.{stands}
 use Rattle.seq_plan.specs.declared.cursor.Cursor.{Cursor}

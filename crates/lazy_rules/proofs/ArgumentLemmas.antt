@@ -1,14 +1,15 @@
 -- What is known of arguments by their number, and by what number the first one is.
-use Rattle.std.proofs.Common.{◌≡◌, ◌≢◌, ℕ, zero, suc, ◌+◌, ◌<◌, ◌≤◌, ℤ, List, [], ◌∷◌, map, length, drop, Some, None, refl, ap, sym, ◌∙◌, arith}
+use Rattle.std.proofs.Common.{◌≡◌, ◌≢◌, ℕ, ◌<◌, ℤ, List, [], ◌∷◌, length, Some, None, refl, ap, sym, ◌∙◌, arith}
 use Rattle.std.proofs.lemmas.List.{length-map}
 use Rattle.seq_values.specs.Model as M
 use Rattle.seq_values.specs.Plain.{plain, plains}
 use Rattle.seq_values.specs.declared.value.Value.{Value}
-use Rattle.lazy_rules.specs.Arguments.{number, counted, counted_with, first_number}
+use Rattle.lazy_rules.specs.Arguments.{counted, counted_with, first_number}
+use Rattle.seq_turns.specs.Arguments.{integer_of}
 
 -- ## Numbers
 
-pub is_number : (x : M.Value ℕ) (n : ℤ) → number x ≡ Some n → x ≡ M.int n
+pub is_number : (x : M.Value ℕ) (n : ℤ) → integer_of x ≡ Some n → x ≡ M.int n
 is_number (M.int m) n e = let p : m ≡ n = cc in ap M.int p
 is_number M.nil n e = absurd cc
 is_number (M.bool b) n e = absurd cc
@@ -24,22 +25,6 @@ is_number (M.chunk ys v) n e = absurd cc
 is_number (M.range a b o) n e = absurd cc
 is_number (M.vec_seq ys i) n e = absurd cc
 
--- ## Lists of one and two
-
-pub one_value : (xs : List Value) (x : Value) → length xs ≡ 1 → drop 0 xs ≡ x ∷ drop (0 + 1) xs → xs ≡ x ∷ []
-one_value [] x l e = absurd cc
-one_value (y ∷ []) x l e = e
-one_value (y ∷ z ∷ ys) x l e = absurd (omega (arith, l))
-
-second_is : (y z x : Value) → drop 1 (y ∷ z ∷ []) ≡ x ∷ drop (1 + 1) (y ∷ z ∷ []) → z ∷ [] ≡ x ∷ []
-second_is y z x e = e
-
-pub two_values : (xs : List Value) (x y : Value) → length xs ≡ 2 → drop 0 xs ≡ x ∷ drop (0 + 1) xs → drop 1 xs ≡ y ∷ drop (1 + 1) xs → xs ≡ x ∷ y ∷ []
-two_values [] x y l e q = absurd cc
-two_values (a ∷ []) x y l e q = absurd (omega (arith, l))
-two_values (a ∷ b ∷ []) x y l e q = e ∙ ap (λ zs. x ∷ zs) q
-two_values (a ∷ b ∷ c ∷ zs) x y l e q = absurd (omega (arith, l))
-
 -- ## A number and a second argument
 
 not_two : (xs : List (M.Value ℕ)) → length xs ≢ 2 → counted xs ≡ None
@@ -51,7 +36,7 @@ not_two (x ∷ y ∷ z ∷ zs) n = refl
 pub not_counted : (xs : List Value) → length xs ≢ 2 → counted (plains xs) ≡ None
 not_counted xs n = not_two (plains xs) (λ e. n (sym (length-map xs plain) ∙ e))
 
-pub no_count : (xs : List Value) (x y : Value) → xs ≡ x ∷ y ∷ [] → number (plain x) ≡ None → counted (plains xs) ≡ None
+pub no_count : (xs : List Value) (x y : Value) → xs ≡ x ∷ y ∷ [] → integer_of (plain x) ≡ None → counted (plains xs) ≡ None
 no_count xs x y e n = ap (λ l. counted (plains l)) e ∙ ap (counted_with (plain y)) n
 
 pub counts : (xs : List Value) (x y z : Value) (n : ℤ) → xs ≡ x ∷ y ∷ [] → plain x ≡ M.int n → z ≡ y → plains xs ≡ M.int n ∷ plain z ∷ []

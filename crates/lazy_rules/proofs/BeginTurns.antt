@@ -1,7 +1,6 @@
 -- How the terms begin.
 use Rattle.std.proofs.Common.{◌≡◌, ◌≢◌, ℕ, ◌+◌, ◌<◌, ℤ, pos, ◌<ℤ◌, int_lt, true, List, [], ◌∷◌, map, length, drop, None, refl, ap, sym, ◌∙◌, arith}
 use Rattle.std.proofs.lemmas.Int.{ints}
-use Rattle.std.proofs.lemmas.List.{length-map}
 use Rattle.seq_base.specs.declared.thrown.Thrown.TheVariants.{BadType}
 use Rattle.seq_values.specs.Model as M
 use Rattle.seq_values.specs.Plain.{plain, plains}
@@ -15,13 +14,12 @@ use Rattle.seq_plan.specs.Nodes.{if_nil}
 use Rattle.seq_plan.specs.Plan.{Plan, seq, go, give, throw, parts_from}
 use Rattle.seq_turns.specs.declared.next.Next.{Next}
 use Rattle.lazy_rows.specs.Table.{lazy_term}
-use Rattle.lazy_rows.specs.Terms.{map_all_rule, repeat_rule, seq_each}
+use Rattle.lazy_rows.specs.Terms.{repeat_rule, seq_each}
 use Rattle.seq_turns.specs.declared.places.Seen.{Seen}
-use Rattle.lazy_rules.specs.Arguments.{number, counted, counted_with}
+use Rattle.lazy_rules.specs.Arguments.{counted}
 use Rattle.lazy_rules.specs.Left.{purpose_op, apply_at, map_all_on, left_seq, seens, Takes}
 use Rattle.lazy_rules.specs.declared.state.AtSeq.TheVariants as Q
 use Rattle.lazy_rules.specs.declared.state.Group.{Group}
-use Rattle.lazy_rules.specs.declared.state.Keeps.{Keeps}
 use Rattle.lazy_rules.specs.declared.state.Keeps.TheVariants as K
 use Rattle.lazy_rules.specs.declared.state.Purpose.{Purpose}
 use Rattle.lazy_rules.specs.declared.state.Purpose.TheVariants as U

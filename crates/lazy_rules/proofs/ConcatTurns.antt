@@ -1,5 +1,5 @@
 -- Turns of `concat`.
-use Rattle.std.proofs.Common.{◌≡◌, ℕ, zero, suc, ◌+◌, ◌<◌, ◌≤◌, Bool, true, false, List, [], ◌∷◌, length, drop, Option, Some, None, refl, ap, sym, subst, ◌∙◌, arith}
+use Rattle.std.proofs.Common.{◌≡◌, ℕ, zero, suc, ◌+◌, ◌<◌, ◌≤◌, List, [], ◌∷◌, length, drop, Some, None, refl, ap, sym, subst, ◌∙◌, arith}
 use Rattle.seq_values.specs.Model as M
 use Rattle.seq_values.specs.Plain.{plain, plains, plain_term}
 use Rattle.seq_values.specs.declared.term.Term.{Term}
@@ -8,23 +8,21 @@ use Rattle.seq_values.specs.declared.words.Kind.TheVariants.{Lazy}
 use Rattle.seq_values.specs.declared.words.Op.TheVariants as O
 use Rattle.seq_plan.specs.Plan.{Plan, make, seq, give}
 use Rattle.seq_plan.specs.Nodes.{first_of, rest_of, chunk_of, if_nil, found, now, give_value, with_items}
-use Rattle.seq_plan.specs.Lists.{first_and, items_and}
+use Rattle.seq_plan.specs.Lists.{first_and}
 use Rattle.seq_plan.specs.Cursors.{stands}
 use Rattle.seq_plan.specs.declared.cursor.Cursor.{Cursor}
-use Rattle.seq_turns.specs.Turning.{Silent, arrives, opens, finds}
-use Rattle.seq_turns.specs.Seen.{NotNow}
+use Rattle.seq_turns.specs.Turning.{Silent, arrives, finds}
 use Rattle.seq_turns.specs.declared.next.Next.{Next}
 use Rattle.seq_turns.proofs.Taking.{some_cursor, joins}
 use Rattle.lazy_rows.specs.Table.{walk_round}
 use Rattle.lazy_rows.specs.Terms.{concat_rule, concat_on}
 use Rattle.lazy_rules.specs.Left.{is_lazy_loop, left_seq, Takes}
-use Rattle.lazy_rules.specs.Leading.{leads, leading_plan}
-use Rattle.lazy_rules.specs.declared.concatenating.Leading.{Leading}
+use Rattle.lazy_rules.specs.Leading.{leading_plan}
 use Rattle.lazy_rules.specs.declared.concatenating.Leading.TheVariants as L
 use Rattle.lazy_rules.specs.declared.state.AtSeq.TheVariants as Q
 use Rattle.lazy_rules.specs.declared.state.Collections.{Collections}
 use Rattle.lazy_rules.specs.declared.state.State.{State}
-use Rattle.lazy_rules.proofs.Taking.{takes_same, takes_from}
+use Rattle.lazy_rules.proofs.Taking.{takes_same}
 
 -- what may be passed over
 abbrev pub Passes : Plan ℕ → Plan ℕ → Type 0

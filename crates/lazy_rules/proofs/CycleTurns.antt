@@ -1,26 +1,25 @@
 -- Turns of `cycle`, `iterate` and `repeat`.
-use Rattle.std.proofs.Common.{◌≡◌, ℕ, ℤ, List, [], ◌∷◌, refl, ap, sym, ◌∙◌}
+use Rattle.std.proofs.Common.{◌≡◌, ℕ, List, [], ◌∷◌, ap, ◌∙◌}
 use Rattle.seq_values.specs.Model as M
 use Rattle.seq_values.specs.Plain.{plain, plains, plain_term}
 use Rattle.seq_values.specs.declared.term.Term.{Term}
 use Rattle.seq_values.specs.declared.value.Value.{Value}
-use Rattle.seq_values.specs.declared.words.Kind.TheVariants.{Lazy}
 use Rattle.seq_values.specs.declared.words.Op.{Op}
 use Rattle.seq_values.specs.declared.words.Op.TheVariants as O
-use Rattle.seq_plan.specs.Plan.{Plan, make, call, give}
+use Rattle.seq_plan.specs.Plan.{call}
 use Rattle.seq_plan.specs.Nodes.{first_of, rest_of}
-use Rattle.seq_plan.specs.Lists.{first_and, lazily}
+use Rattle.seq_plan.specs.Lists.{first_and}
 use Rattle.seq_plan.specs.Cursors.{stands}
 use Rattle.seq_plan.specs.declared.cursor.Cursor.{Cursor}
 use Rattle.seq_turns.specs.declared.next.Next.{Next}
 use Rattle.seq_turns.specs.declared.proper.Proper.{Proper}
 use Rattle.seq_turns.proofs.Taking.{some_cursor}
-use Rattle.lazy_rows.specs.Terms.{next_one_rule, repeat_rule}
+use Rattle.lazy_rows.specs.Terms.{next_one_rule}
 use Rattle.lazy_rules.specs.Left.{left_seq, left_value, Takes}
 use Rattle.lazy_rules.specs.declared.state.AtSeq.TheVariants as Q
 use Rattle.lazy_rules.specs.declared.state.AtValue.TheVariants as V
 use Rattle.lazy_rules.specs.declared.state.State.{State}
-use Rattle.lazy_rules.proofs.Taking.{takes_same, calls_same}
+use Rattle.lazy_rules.proofs.Taking.{takes_same}
 
 pub cycle_goes : (w : Proper) (c : Cursor) (r : Next State) → Takes (first_and (first_of (stands c)) O.Cycle (plain w.value ∷ rest_of (stands c) ∷ [])) r → Takes (left_seq (Q.Cycle w) (stands c)) r
 cycle_goes w c r h = rw (some_cursor c) h

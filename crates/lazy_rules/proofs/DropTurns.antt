@@ -1,11 +1,11 @@
 -- Turns of `take` and `drop`.
 use Rattle.std.specs.declared.result.Result.{Result}
-use Rattle.std.proofs.Common.{◌≡◌, ℕ, ℤ, pos, ◌-ℤ◌, int_le, true, false, IfOk, List, [], ◌∷◌, refl, ap, sym, ◌∙◌}
+use Rattle.std.proofs.Common.{◌≡◌, ℕ, ℤ, pos, ◌-ℤ◌, int_le, true, false, IfOk, [], ◌∷◌, refl, ap, ◌∙◌}
 use Rattle.seq_values.specs.Model as M
-use Rattle.seq_values.specs.Plain.{plain, plains, plain_term}
+use Rattle.seq_values.specs.Plain.{plains, plain_term}
 use Rattle.seq_values.specs.declared.term.Term.{Term}
 use Rattle.seq_values.specs.declared.words.Op.TheVariants as O
-use Rattle.seq_plan.specs.Plan.{Plan, visit, seq, give, drop_from}
+use Rattle.seq_plan.specs.Plan.{visit, seq, give, drop_from}
 use Rattle.seq_plan.specs.Nodes.{first_of, rest_of}
 use Rattle.seq_plan.specs.Lists.{first_and}
 use Rattle.seq_plan.specs.Cursors.{stands}
@@ -17,7 +17,7 @@ use Rattle.lazy_rules.specs.Left.{left_seq, left_step, Takes}
 use Rattle.lazy_rules.specs.declared.state.AtSeq.TheVariants as Q
 use Rattle.lazy_rules.specs.declared.state.AtStep.TheVariants as T
 use Rattle.lazy_rules.specs.declared.state.State.{State}
-use Rattle.lazy_rules.proofs.Taking.{takes_same, takes_round, in_ok, ok_same}
+use Rattle.lazy_rules.proofs.Taking.{takes_same, takes_round, ok_same}
 
 pub drop_nil : (n : ℤ) (r : Next State) → Takes (give M.nil) r → Takes (left_seq (Q.Drop n) M.nil) r
 drop_nil n r h = takes_round drop_from (M.int n ∷ M.nil ∷ []) refl h

@@ -3,19 +3,17 @@ use Rattle.std.specs.declared.result.Result.{Result}
 use Rattle.seq_values.specs.declared.value.Value.{Value}
 use Rattle.std.proofs.Common.{IfOk, ◌≡◌, ℕ, ℤ, pos, ◌-ℤ◌, int_le, true, false, List, [], ◌∷◌, ◌++◌, refl, ap, sym, ◌∙◌}
 use Rattle.seq_values.specs.Model as M
-use Rattle.seq_values.specs.Plain.{plain, plains, plain_term}
+use Rattle.seq_values.specs.Plain.{plains, plain_term}
 use Rattle.seq_values.specs.declared.term.Term.{Term}
-use Rattle.seq_values.specs.declared.words.Kind.TheVariants.{Lazy}
 use Rattle.seq_values.specs.declared.words.Op.TheVariants as O
-use Rattle.seq_plan.specs.Plan.{Plan, visit, make, seq, go, give, throw, parts_from}
-use Rattle.seq_plan.specs.Nodes.{first_of, rest_of, if_nil, with_members, give_value}
+use Rattle.seq_plan.specs.Plan.{Plan, visit, seq, go, give, throw, parts_from}
+use Rattle.seq_plan.specs.Nodes.{first_of, rest_of, if_nil, with_members}
 use Rattle.seq_plan.specs.Lists.{list_of, first_and}
 use Rattle.seq_plan.specs.Cursors.{stands}
 use Rattle.seq_plan.specs.declared.cursor.Cursor.{Cursor}
 use Rattle.seq_plan.proofs.CursorLemmas.{list_values, cursor_found}
 use Rattle.seq_base.specs.declared.thrown.Thrown.TheVariants.{Overflow}
-use Rattle.seq_turns.specs.Making.{Grows, grown}
-use Rattle.seq_turns.specs.declared.made.Grown.{Grown}
+use Rattle.seq_turns.specs.Making.{Grows}
 use Rattle.seq_turns.specs.declared.made.Grown.TheVariants as G
 use Rattle.seq_turns.specs.declared.next.Next.{Next}
 use Rattle.seq_turns.specs.declared.proper.Gathered.{Gathered}

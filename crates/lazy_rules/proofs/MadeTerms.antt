@@ -1,7 +1,5 @@
 -- Which arguments the terms that are made have.
-use Rattle.std.proofs.Common.{◌≡◌, ◌≤◌, ◌<◌, ◌+◌, ℕ, nat_le, true, List, [], ◌∷◌, ◌++◌, map, length, drop, refl, ap, sym, ◌∙◌, append_assoc, arith}
-use Rattle.std.proofs.lemmas.List.{length-map}
-use Rattle.std.proofs.lemmas.Bool.{le-leb}
+use Rattle.std.proofs.Common.{◌≡◌, ◌≤◌, ◌+◌, true, List, [], ◌∷◌, ◌++◌, map, length, refl, ap, sym, ◌∙◌, append_assoc, arith}
 use Rattle.seq_values.specs.declared.value.Value.{Value}
 use Rattle.seq_values.specs.declared.words.Op.{Op}
 use Rattle.seq_values.specs.declared.words.Op.TheVariants as O
@@ -11,9 +9,6 @@ use Rattle.seq_values.specs.WellFormedTerms.{takes}
 use Rattle.lazy_rules.specs.Left.{sift_op}
 use Rattle.lazy_rules.specs.declared.state.Keeps.{Keeps}
 use Rattle.lazy_rules.specs.declared.state.Keeps.TheVariants as K
-
-pub takes_two : (op : Op) (args : List Value) (a b : Value) → args ≡ a ∷ b ∷ [] → takes op (sight_of a ∷ sight_of b ∷ []) ≡ true → takes op (map sight_of args) ≡ true
-takes_two op args a b e h = ap (λ xs. takes op (map sight_of xs)) e ∙ h
 
 pub sift_takes : (k : Keeps) (op : Op) → op ≡ sift_op k → (a b : Sight) → takes op (a ∷ b ∷ []) ≡ true
 sift_takes K.Answers op e a b = ap (λ o. takes o (a ∷ b ∷ [])) e

@@ -1,17 +1,16 @@
 -- Turns of `map` over several collections.
-use Rattle.std.proofs.Common.{◌≡◌, ℕ, zero, suc, ◌+◌, ◌<◌, ◌≤◌, nat_le, Bool, true, false, ◌||◌, ◌&&◌, List, [], ◌∷◌, ◌++◌, map, reverse, length, take, drop, refl, ap, sym, subst, ◌∙◌, append_assoc, arith}
+use Rattle.std.proofs.Common.{◌≡◌, ℕ, ◌+◌, ◌≤◌, nat_le, Bool, true, false, ◌&&◌, List, [], ◌∷◌, ◌++◌, map, reverse, length, refl, ap, sym, ◌∙◌, append_assoc, arith}
 use Rattle.std.proofs.lemmas.List.{map-append, length-map, reverse-append}
 use Rattle.std.proofs.lemmas.Bool.{leb-true}
 use Rattle.seq_values.specs.Model as M
 use Rattle.seq_values.specs.Plain.{plain, plains, plain_term}
-use Rattle.seq_values.specs.Sight.{Sight}
 use Rattle.seq_values.specs.WellFormed.{sight_of}
 use Rattle.seq_values.specs.WellFormedTerms.{takes}
 use Rattle.seq_values.specs.declared.term.Term.{Term}
 use Rattle.seq_values.specs.declared.value.Value.{Value}
 use Rattle.seq_values.specs.declared.words.Op.TheVariants as O
 use Rattle.seq_plan.specs.Plan.{Plan, seq, call, give}
-use Rattle.seq_plan.specs.Nodes.{first_of, rest_of, is_nil, if_nil, found, now}
+use Rattle.seq_plan.specs.Nodes.{first_of, rest_of, is_nil, found, now}
 use Rattle.seq_plan.specs.Lists.{first_and}
 use Rattle.seq_turns.specs.Seen.{seen}
 use Rattle.seq_turns.specs.declared.next.Next.{Next}
@@ -20,7 +19,7 @@ use Rattle.lazy_rows.specs.Terms.{seq_each, unless_nil_among}
 use Rattle.lazy_rules.specs.Arguments.{is_any_nil}
 use Rattle.lazy_rules.specs.Left.{seens, map_all_on, Takes}
 use Rattle.lazy_rules.specs.declared.state.State.{State}
-use Rattle.lazy_rules.proofs.Taking.{takes_same, now_goes, asks_goes}
+use Rattle.lazy_rules.proofs.Taking.{takes_same, now_goes}
 
 and_left : (a b : Bool) → (a && b) ≡ true → a ≡ true
 and_left true b h = refl

@@ -1,5 +1,5 @@
 -- Turns that make a part of a count and a collection.
-use Rattle.std.proofs.Common.{◌≡◌, ℕ, ℤ, List, [], ◌∷◌, ap, ◌∙◌}
+use Rattle.std.proofs.Common.{◌≡◌, ℕ, ℤ, [], ◌∷◌, ap, ◌∙◌}
 use Rattle.seq_values.specs.Model as M
 use Rattle.seq_values.specs.Plain.{plain_term}
 use Rattle.seq_values.specs.declared.term.Term.{Term}

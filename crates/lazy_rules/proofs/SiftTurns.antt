@@ -6,11 +6,10 @@ use Rattle.seq_values.specs.declared.term.Term.{Term}
 use Rattle.seq_values.specs.declared.value.Value.{Value}
 use Rattle.seq_values.specs.declared.words.Kind.TheVariants.{Lazy}
 use Rattle.seq_values.specs.declared.words.Op.{Op}
-use Rattle.seq_plan.specs.Plan.{Plan, call, make}
+use Rattle.seq_plan.specs.Plan.{call, make}
 use Rattle.seq_plan.specs.Nodes.{is_truthy, is_nil, give_value, with_items}
 use Rattle.seq_plan.specs.Lists.{items_and}
 use Rattle.seq_turns.specs.declared.next.Next.{Next}
-use Rattle.lazy_rows.specs.Terms.{where_true, where_some}
 use Rattle.lazy_rules.specs.Arguments.{chosen}
 use Rattle.lazy_rules.specs.Left.{kept_of, kept_in, sift_op, sift_left, sift_answered, Takes}
 use Rattle.lazy_rules.specs.declared.choosing.Chosen.{Chosen}

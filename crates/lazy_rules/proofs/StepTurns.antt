@@ -1,5 +1,5 @@
 -- A turn after an element of a group was taken.
-use Rattle.std.proofs.Common.{◌≡◌, ℕ, ℤ, pos, ◌-ℤ◌, List, [], ◌∷◌, ◌++◌}
+use Rattle.std.proofs.Common.{◌≡◌, ℕ, ℤ, pos, ◌-ℤ◌, [], ◌∷◌, ◌++◌}
 use Rattle.seq_values.specs.Model as M
 use Rattle.seq_values.specs.Plain.{plains}
 use Rattle.seq_plan.specs.Nodes.{first_of, rest_of, with_members}

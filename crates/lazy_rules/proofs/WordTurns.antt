@@ -1,8 +1,7 @@
 -- What the calls of words make, and give.
-use Rattle.std.proofs.Common.{◌≡◌, ◌≢◌, ℕ, ◌+◌, ◌<◌, ◌≤◌, ℤ, pos, ◌<ℤ◌, int_lt, cond, Bool, true, false, Option, if◌then◌else◌, List, [], ◌∷◌, map, length, drop, Some, None, refl, ap, sym, ◌∙◌, arith, rules}
+use Rattle.std.proofs.Common.{◌≡◌, ◌≢◌, ℕ, ◌+◌, ◌<◌, ◌≤◌, ℤ, pos, int_lt, Bool, true, false, Option, if◌then◌else◌, List, [], ◌∷◌, map, length, drop, Some, None, refl, ap, sym, ◌∙◌, arith, rules}
 use Rattle.std.specs.Prelude.{IsTrue}
 use Rattle.std.proofs.lemmas.Int.{ints}
-use Rattle.std.proofs.lemmas.List.{length-map}
 use Rattle.seq_base.specs.declared.thrown.Thrown.{Thrown}
 use Rattle.seq_base.specs.declared.thrown.Thrown.TheVariants.{Arity, BadType, Index}
 use Rattle.seq_values.specs.Model as M
@@ -30,7 +29,8 @@ use Rattle.seq_turns.specs.declared.made.Made.TheVariants as D
 use Rattle.seq_turns.specs.declared.next.Next.{Next}
 use Rattle.seq_turns.specs.declared.proper.Proper.{Proper}
 use Rattle.lazy_rows.specs.Calls.{give_stage, with_function, map_call, remove_call, with_count, partition_call, iterate_call, range_call, repeat_call, cycle_call}
-use Rattle.lazy_rules.specs.Arguments.{number, counted, counted_with, first_number}
+use Rattle.lazy_rules.specs.Arguments.{counted, first_number}
+use Rattle.seq_turns.specs.Arguments.{integer_of}
 use Rattle.lazy_rules.specs.Left.{Takes}
 use Rattle.lazy_rules.specs.declared.state.State.{State}
 use Rattle.lazy_rules.proofs.ArgumentLemmas.{is_number}
@@ -120,7 +120,7 @@ not_makes p c bound q t r e m d h =
 
 -- ## A count and a collection
 
-count_wrong_one : (op : Op) (kind : XfKind) (x : M.Value ℕ) → number x ≡ None → with_count op kind (x ∷ []) ≡ throw BadType
+count_wrong_one : (op : Op) (kind : XfKind) (x : M.Value ℕ) → integer_of x ≡ None → with_count op kind (x ∷ []) ≡ throw BadType
 count_wrong_one op kind M.nil e = refl
 count_wrong_one op kind (M.bool b) e = refl
 count_wrong_one op kind (M.keyword k) e = refl
@@ -136,7 +136,7 @@ count_wrong_one op kind (M.range a b o) e = refl
 count_wrong_one op kind (M.vec_seq ys i) e = refl
 count_wrong_one op kind (M.int n) e = absurd cc
 
-count_wrong_two : (op : Op) (kind : XfKind) (x c : M.Value ℕ) → number x ≡ None → with_count op kind (x ∷ c ∷ []) ≡ throw BadType
+count_wrong_two : (op : Op) (kind : XfKind) (x c : M.Value ℕ) → integer_of x ≡ None → with_count op kind (x ∷ c ∷ []) ≡ throw BadType
 count_wrong_two op kind M.nil c e = refl
 count_wrong_two op kind (M.bool b) c e = refl
 count_wrong_two op kind (M.keyword k) c e = refl
@@ -211,7 +211,7 @@ counted_takes op (x ∷ y ∷ z ∷ zs) n l s h = absurd (omega (arith, l))
 
 -- ## `partition-all`
 
-parts_wrong_one : (x : M.Value ℕ) → number x ≡ None → partition_call (x ∷ []) ≡ throw BadType
+parts_wrong_one : (x : M.Value ℕ) → integer_of x ≡ None → partition_call (x ∷ []) ≡ throw BadType
 parts_wrong_one M.nil e = refl
 parts_wrong_one (M.bool b) e = refl
 parts_wrong_one (M.keyword k) e = refl
@@ -227,7 +227,7 @@ parts_wrong_one (M.range a b o) e = refl
 parts_wrong_one (M.vec_seq ys i) e = refl
 parts_wrong_one (M.int n) e = absurd cc
 
-parts_wrong_two : (x c : M.Value ℕ) → number x ≡ None → partition_call (x ∷ c ∷ []) ≡ throw BadType
+parts_wrong_two : (x c : M.Value ℕ) → integer_of x ≡ None → partition_call (x ∷ c ∷ []) ≡ throw BadType
 parts_wrong_two M.nil c e = refl
 parts_wrong_two (M.bool b) c e = refl
 parts_wrong_two (M.keyword k) c e = refl
@@ -351,7 +351,7 @@ range_gives from end n e = plain_node n _ e ∙ by (int_lt from end) refl
     by true q = rw q (plain_range from from end)
     by false q = rw q plain_empty
 
-range_wrong_one : (x : M.Value ℕ) → number x ≡ None → range_call (x ∷ []) ≡ throw BadType
+range_wrong_one : (x : M.Value ℕ) → integer_of x ≡ None → range_call (x ∷ []) ≡ throw BadType
 range_wrong_one M.nil e = refl
 range_wrong_one (M.bool b) e = refl
 range_wrong_one (M.keyword k) e = refl
@@ -367,7 +367,7 @@ range_wrong_one (M.range a b o) e = refl
 range_wrong_one (M.vec_seq ys i) e = refl
 range_wrong_one (M.int n) e = absurd cc
 
-range_wrong_first : (x y : M.Value ℕ) → number x ≡ None → range_call (x ∷ y ∷ []) ≡ throw BadType
+range_wrong_first : (x y : M.Value ℕ) → integer_of x ≡ None → range_call (x ∷ y ∷ []) ≡ throw BadType
 range_wrong_first M.nil y e = refl
 range_wrong_first (M.bool b) y e = refl
 range_wrong_first (M.keyword k) y e = refl
@@ -383,7 +383,7 @@ range_wrong_first (M.range a b o) y e = refl
 range_wrong_first (M.vec_seq ys i) y e = refl
 range_wrong_first (M.int n) y e = absurd cc
 
-range_wrong_second : (n : ℤ) (y : M.Value ℕ) → number y ≡ None → range_call (M.int n ∷ y ∷ []) ≡ throw BadType
+range_wrong_second : (n : ℤ) (y : M.Value ℕ) → integer_of y ≡ None → range_call (M.int n ∷ y ∷ []) ≡ throw BadType
 range_wrong_second n M.nil e = refl
 range_wrong_second n (M.bool b) e = refl
 range_wrong_second n (M.keyword k) e = refl
@@ -444,10 +444,10 @@ range_ends (x ∷ []) n m r l e q h =
     takes_same (ap (λ k. give (range_at (pos 0) (pos 0) k)) q ∙ sym (ap (λ v. range_call (v ∷ [])) i)) h
 range_ends (x ∷ y ∷ ys) n m r l e q h = absurd (omega (arith, l))
 
-counted_none : (x y : M.Value ℕ) → counted (x ∷ y ∷ []) ≡ None → number x ≡ None
-counted_none x y e = by (number x) refl
+counted_none : (x y : M.Value ℕ) → counted (x ∷ y ∷ []) ≡ None → integer_of x ≡ None
+counted_none x y e = by (integer_of x) refl
   where
-    by : (o : Option ℤ) → number x ≡ o → number x ≡ None
+    by : (o : Option ℤ) → integer_of x ≡ o → integer_of x ≡ None
     by None q = q
     by (Some n) q = absurd cc
 
@@ -457,10 +457,10 @@ range_wrong_begin (x ∷ []) r l e h = absurd (omega (arith, l))
 range_wrong_begin (x ∷ y ∷ []) r l e h = takes_same (sym (range_wrong_first (plain x) (plain y) (counted_none (plain x) (plain y) e))) h
 range_wrong_begin (x ∷ y ∷ z ∷ zs) r l e h = absurd (omega (arith, l))
 
-pub range_wrong_stop : (n : ℤ) (y : M.Value ℕ) (r : Next State) → number y ≡ None → Takes (throw BadType) r → Takes (range_call (M.int n ∷ y ∷ [])) r
+pub range_wrong_stop : (n : ℤ) (y : M.Value ℕ) (r : Next State) → integer_of y ≡ None → Takes (throw BadType) r → Takes (range_call (M.int n ∷ y ∷ [])) r
 range_wrong_stop n y r e h = takes_same (sym (range_wrong_second n y e)) h
 
-pub range_spans : (n k m o : ℤ) (y : M.Value ℕ) (r : Next State) → number y ≡ Some m → k ≡ n → o ≡ m → Takes (give (range_at k k o)) r → Takes (range_call (M.int n ∷ y ∷ [])) r
+pub range_spans : (n k m o : ℤ) (y : M.Value ℕ) (r : Next State) → integer_of y ≡ Some m → k ≡ n → o ≡ m → Takes (give (range_at k k o)) r → Takes (range_call (M.int n ∷ y ∷ [])) r
 range_spans n k m o y r e q p h = takes_same ((λ i. give (range_at (q i) (q i) (p i))) ∙ sym (ap (λ v. range_call (M.int n ∷ v ∷ [])) (is_number y m e))) h
 
 pub range_arity : (args : List Value) (r : Next State) → length args ≢ 0 → length args ≢ 1 → length args ≢ 2 → Takes (throw Arity) r → Takes (range_call (plains args)) r
@@ -474,7 +474,7 @@ pair_same k args n c e = sym (ap k e)
 
 -- ## `repeat`
 
-repeat_wrong : (x y : M.Value ℕ) → number x ≡ None → repeat_call (x ∷ y ∷ []) ≡ throw BadType
+repeat_wrong : (x y : M.Value ℕ) → integer_of x ≡ None → repeat_call (x ∷ y ∷ []) ≡ throw BadType
 repeat_wrong M.nil y e = refl
 repeat_wrong (M.bool b) y e = refl
 repeat_wrong (M.keyword k) y e = refl

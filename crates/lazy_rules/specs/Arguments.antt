@@ -3,14 +3,10 @@ use Rattle.std.specs.Prelude.{ℕ, ℤ, Bool, false, ◌||◌, List, [], ◌∷�
 use Rattle.seq_values.specs.Model as M
 use Rattle.seq_values.specs.Plain.{plain}
 use Rattle.seq_plan.specs.Nodes.{is_nil}
+use Rattle.seq_turns.specs.Arguments.{integer_of}
 use Rattle.seq_turns.specs.declared.proper.Proper.{Proper}
 use Rattle.lazy_rules.specs.declared.choosing.Chosen.{Chosen}
 use Rattle.lazy_rules.specs.declared.choosing.Chosen.TheVariants as C
-
--- the integer that a value is
-abbrev pub number : M.Value ℕ → Option ℤ
-number (M.int n) = Some n
-number _ = None
 
 abbrev pub counted_with : M.Value ℕ → Option ℤ → Option (ℤ × M.Value ℕ)
 counted_with c (Some n) = Some (n, c)
@@ -18,7 +14,7 @@ counted_with c None = None
 
 -- an integer and a second argument
 abbrev pub counted : List (M.Value ℕ) → Option (ℤ × M.Value ℕ)
-counted (x ∷ c ∷ []) = counted_with c (number x)
+counted (x ∷ c ∷ []) = counted_with c (integer_of x)
 counted _ = None
 
 -- what is kept of an element, by what was chosen
@@ -40,4 +36,4 @@ is_any_nil (s ∷ ss) = is_nil s || is_any_nil ss
 -- the first one, where it is an integer
 abbrev pub first_number : List (M.Value ℕ) → Option ℤ
 first_number [] = None
-first_number (x ∷ xs) = number x
+first_number (x ∷ xs) = integer_of x

@@ -1,5 +1,5 @@
 -- What collections begin with, once those without elements are left out.
-use Rattle.std.specs.Prelude.{◌≡◌, ◌<◌, ◌≤◌, ℕ, List, length, drop}
+use Rattle.std.specs.Prelude.{◌<◌, ◌≤◌, ℕ, List, length, drop}
 use Rattle.seq_values.specs.Plain.{plain, plains}
 use Rattle.seq_values.specs.declared.value.Value.{Value}
 use Rattle.seq_plan.specs.Cursors.{stands}

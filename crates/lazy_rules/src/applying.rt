@@ -11,7 +11,6 @@ ghost use Rattle.seq_turns.specs.Seen.{seen};
 ghost use Rattle.seq_values.specs.Model as M;
 ghost use Rattle.seq_values.specs.Plain.{plain};
 
-use crate::arguments::is_truthy;
 use crate::choosing::first_kept;
 use crate::made_terms::{first_and_rest, first_or_cell, pair_term, rest_term};
 use crate::sifting::sift_chunk;
@@ -20,7 +19,7 @@ use crate::ways::{calls, gives, gives_nil, let_go, makes, seeks};
 use seq_plan::Cursor;
 use seq_turns::{
     Chunked, Gathered, Next, Proper, ProperList, Seen, Sought, chunk_of_cursor, cursor_value,
-    first_of_cursor, seek_rest, step_cursor,
+    first_of_cursor, is_truthy, seek_rest, step_cursor,
 };
 use seq_values::{CellId, Op};
 use seq_vector::NoMemory;
@@ -177,7 +176,7 @@ fn single_answer(
 fn holds(answer: Proper) -> bool
     ensures { result ≡ is_truthy (plain answer.value) }
 {
-    let truth = is_truthy(&answer);
+    let truth = is_truthy(&answer.value);
     let_go(answer);
     truth
 }

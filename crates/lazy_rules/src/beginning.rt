@@ -10,7 +10,7 @@ ghost use Rattle.seq_values.specs.WellFormed.{sight_of};
 ghost use Rattle.seq_values.specs.WellFormedTerms.{takes};
 ghost use Rattle.seq_values.specs.declared.words.Op.TheVariants as O;
 
-use crate::arguments::{Counted, Pair, counted_of, only, pair_of, value_at};
+use crate::arguments::{Counted, counted_of, only, pair_of};
 use crate::concatenating::concat_from;
 use crate::cycling::{next_one, repeat_one};
 use crate::mapping_all::gather;
@@ -88,7 +88,7 @@ fn apply_begins(
     match pair {
         None => Ok(throws(Thrown::BadType)),
         Some(pair) => {
-            let Pair { first, second } = pair;
+            let (first, second) = pair;
             start(
                 alloc,
                 AtSeq::Apply(Applying {
@@ -108,7 +108,7 @@ fn map_all_begins(alloc: Global, args: ProperList, chunk: u32) -> Result<Next<St
     requires { takes O.MapN (map sight_of args.items) ≡ true }
     ensures { IfOk result (λ r. Takes (lazy_term chunk O.MapN (plains args.items)) r) }
 {
-    let function = value_at(&args, 0)?;
+    let function = args.at(0)?;
     let seqs = Vec::new(alloc);
     let next = gather(alloc, function, seqs, args, 1)?;
     Ok(next)
@@ -160,7 +160,7 @@ fn next_begins(alloc: Global, args: ProperList, chunk: u32) -> Result<Next<State
     match pair {
         None => Ok(throws(Thrown::BadType)),
         Some(pair) => {
-            let Pair { first, second } = pair;
+            let (first, second) = pair;
             next_one(alloc, first, second)
         }
     }
@@ -183,7 +183,7 @@ fn cycle_begins(alloc: Global, args: ProperList, chunk: u32) -> Result<Next<Stat
     match pair {
         None => Ok(throws(Thrown::BadType)),
         Some(pair) => {
-            let Pair { first, second } = pair;
+            let (first, second) = pair;
             start(alloc, AtSeq::Cycle { whole: first }, second)
         }
     }

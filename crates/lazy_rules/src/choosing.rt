@@ -7,11 +7,11 @@ ghost use Rattle.seq_plan.specs.Nodes.{first_of};
 ghost use Rattle.seq_values.specs.Model as M;
 ghost use Rattle.seq_values.specs.Plain.{plain, plains};
 
-use crate::arguments::{is_nil, is_truthy, value_at};
+use crate::arguments::is_nil;
 use crate::state::Keeps;
 use crate::ways::let_go;
 use seq_plan::Cursor;
-use seq_turns::{Gathered, Proper, ProperList, first_of_cursor};
+use seq_turns::{Gathered, Proper, ProperList, first_of_cursor, is_truthy};
 use seq_values::{Op, Value};
 use seq_vector::NoMemory;
 
@@ -42,7 +42,7 @@ impl Keeps {
     {
         match self {
             Keeps::Answers => Chosen::Answer,
-            Keeps::Elements => element_if(is_truthy(answer)),
+            Keeps::Elements => element_if(is_truthy(&answer.value)),
             Keeps::SomeAnswers => answer_unless(is_nil(answer)),
         }
     }
@@ -138,7 +138,7 @@ fn and_element(
 {
     let _many = items.items.len();
     let_go(answer);
-    let element = value_at(items, at)?;
+    let element = items.at(at)?;
     let all = kept.and(element)?;
     Ok(all)
 }

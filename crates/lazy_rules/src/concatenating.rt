@@ -11,7 +11,6 @@ ghost use Rattle.seq_turns.specs.Seen.{seen};
 ghost use Rattle.seq_turns.specs.Turning.{Silent};
 ghost use Rattle.seq_values.specs.Plain.{plains};
 
-use crate::arguments::value_at;
 use crate::made_terms::{concat_term, first_then};
 use crate::state::{AtPart, AtSeq, Collections, State};
 use crate::ways::{gives, gives_nil, let_go, makes, seeks};
@@ -47,7 +46,7 @@ fn find_leading(args: &ProperList, at: usize) -> Result<Leading, NoMemory>
     }
     let mut here = at;
     while here + 1 < count {
-        let value = value_at(args, here)?;
+        let value = args.at(here)?;
         match seek(value) {
             Sought::Now(Seen::Nil) => {}
             Sought::Now(Seen::At(place)) => {
@@ -65,7 +64,7 @@ fn find_leading(args: &ProperList, at: usize) -> Result<Leading, NoMemory>
         }
         here += 1;
     }
-    let last = value_at(args, here)?;
+    let last = args.at(here)?;
     Ok(Leading::Last(last))
 }
 

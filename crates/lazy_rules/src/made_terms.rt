@@ -13,31 +13,25 @@ ghost use Rattle.seq_values.specs.WellFormed.{sight_of};
 ghost use Rattle.seq_values.specs.WellFormedTerms.{takes};
 ghost use Rattle.seq_values.specs.declared.words.Op.TheVariants as O;
 
-use crate::arguments::value_at;
 use crate::state::{AtPart, ProperTerm, State};
 use crate::ways::makes;
 use seq_plan::Cursor;
 use seq_turns::{Gathered, Next, Proper, ProperList, Split, rest_value, split_cursor, step_cursor};
-use seq_values::{Op, Term};
+use seq_values::Op;
 use seq_vector::NoMemory;
 use std::alloc::Global;
 
 /// An operation on arguments that it takes.
-#[tactic(auto, using(seq_values::proofs::WellFormedLemmas::term_well))]
 pub(crate) fn term_of(op: Op, args: ProperList) -> ProperTerm
     requires { takes op (map sight_of args.items) ≡ true }
     ensures { plain_term result.term ≡ record { op = op; args = plains args.items } }
 {
     ProperTerm {
-        term: Term {
-            op,
-            args: args.items,
-        },
+        term: seq_turns::term_of(op, args),
     }
 }
 
 /// An operation on two arguments.
-#[tactic(auto, using(crate::proofs::MadeTerms::takes_two))]
 pub(crate) fn pair_term(
     alloc: Global,
     op: Op,
@@ -47,8 +41,8 @@ pub(crate) fn pair_term(
     requires { takes op (sight_of first.value ∷ sight_of second.value ∷ []) ≡ true }
     ensures { IfOk result (λ t. plain_term t.term ≡ record { op = op; args = plain first.value ∷ plain second.value ∷ [] }) }
 {
-    let args = ProperList::two(alloc, first, second)?;
-    Ok(term_of(op, args))
+    let term = seq_turns::term_with_two(alloc, op, first, second)?;
+    Ok(ProperTerm { term })
 }
 
 /// An operation on a count and a collection.
@@ -129,7 +123,7 @@ fn with_tail(
     let room = Gathered::with_room(alloc, count.saturating_sub(at) + 1)?;
     let mut all = room.and(first)?;
     for place in at..count {
-        let value = value_at(values, place)?;
+        let value = values.at(place)?;
         all = all.and(value)?;
     }
     Ok(all)

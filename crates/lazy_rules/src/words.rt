@@ -1,6 +1,6 @@
 //! The words of lazy operations: what a call makes, and gives.
 ghost use Rattle.std.specs.Prelude.{◌≡◌, ◌≢◌, ℤ, true, map, length, [], ◌∷◌, List, Some, IfOk, IfSome, IsTrue};
-ghost use Rattle.lazy_rules.specs.Arguments.{first_number, number};
+ghost use Rattle.lazy_rules.specs.Arguments.{first_number};
 ghost use Rattle.lazy_rules.specs.Left.{Takes};
 ghost use Rattle.lazy_rules.specs.Words.{is_lazy_word};
 ghost use Rattle.lazy_rows.specs.Calls.{give_stage, with_function, map_call, remove_call, with_count, partition_call, iterate_call, range_call, repeat_call, cycle_call};
@@ -17,12 +17,12 @@ ghost use Rattle.seq_values.specs.WellFormedTerms.{takes};
 ghost use Rattle.seq_values.specs.declared.words.Op.TheVariants as O;
 ghost use Rattle.seq_values.specs.declared.words.Target.TheVariants as T;
 
-use crate::arguments::{Counted, Pair, counted_of, number_of, only, pair_of, value_at};
+use crate::arguments::{Counted, counted_of, only, pair_of};
 use crate::made_terms::{first_then, pair_term, term_of};
 use crate::state::{AtPart, Call, State};
 use crate::ways::{gives, let_go, makes, throws};
 use seq_base::Thrown;
-use seq_turns::{Made, Next, Proper, ProperList, function_made, gives_function};
+use seq_turns::{Made, Next, Proper, ProperList, function_made, gives_function, number_of};
 use seq_values::{Builtin, Node, Op, Target, Value, XfKind, word_value};
 use seq_vector::NoMemory;
 use std::alloc::Global;
@@ -162,10 +162,10 @@ fn remove_call(alloc: Global, args: ProperList) -> Result<Next<State>, NoMemory>
 
 #[tactic(auto, using(crate::proofs::WordTurns::not_throws, crate::proofs::WordTurns::not_makes, crate::proofs::WordTurns::complement_binds))]
 /// The elements of which the first isn't true.
-fn filter_not(alloc: Global, pair: Pair) -> Result<Next<State>, NoMemory>
-    ensures { IfOk result (λ r. Takes (remove_call (plain pair.first.value ∷ plain pair.second.value ∷ [])) r) }
+fn filter_not(alloc: Global, pair: (Proper, Proper)) -> Result<Next<State>, NoMemory>
+    ensures { IfOk result (λ r. Takes (remove_call (plain pair.0.value ∷ plain pair.1.value ∷ [])) r) }
 {
-    let Pair { first, second } = pair;
+    let (first, second) = pair;
     let bound = ProperList::one(alloc, first)?;
     match function_made(Target::Complement, bound) {
         Made::Thrown(why) => {
@@ -292,7 +292,7 @@ fn iterate_call(args: ProperList) -> Result<Next<State>, NoMemory>
     if args.len() != 2 {
         return Ok(wrong_number(args));
     }
-    let first = value_at(&args, 1)?;
+    let first = args.at(1)?;
     let term = term_of(Op::Next, args);
     Ok(first_then(first, term))
 }

@@ -6,7 +6,6 @@ use Rattle.seq_values.specs.Plain.{plain, plains}
 use Rattle.seq_values.specs.declared.value.Value.{Value}
 use Rattle.seq_plan.specs.Plan.{Plan, throw}
 use Rattle.seq_plan.specs.Arguments.{of_value}
-use Rattle.lazy_rows.specs.Equal.{equal_call, unequal_call}
 use Rattle.seq_turns.specs.declared.next.Next.{Next}
 use Rattle.seq_turns.specs.declared.proper.Proper.{Proper}
 use Rattle.walk_rules.specs.Left.{Takes}

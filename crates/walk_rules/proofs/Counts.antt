@@ -1,5 +1,5 @@
 -- Turns of `last` and `count`.
-use Rattle.std.proofs.Common.{◌≡◌, ℕ, ◌-◌, ◌<◌, ◌≤◌, ℤ, pos, ◌+ℤ◌, ◌-ℤ◌, unsigned_abs, true, false, int_le, int_lt, List, [], ◌∷◌, length, Option, Some, None, refl, ap, sym, ◌∙◌, arith, rules}
+use Rattle.std.proofs.Common.{◌≡◌, ℕ, ◌-◌, ℤ, pos, ◌+ℤ◌, ◌-ℤ◌, unsigned_abs, true, false, int_le, int_lt, List, [], ◌∷◌, length, Some, None, refl, ap, sym, ◌∙◌, arith, rules}
 use Rattle.std.proofs.lemmas.Int.{ints}
 use Rattle.seq_base.specs.declared.thrown.Thrown.TheVariants.{Overflow}
 use Rattle.seq_values.specs.Model as M
@@ -10,7 +10,7 @@ use Rattle.seq_values.specs.declared.value.Node.TheVariants as N
 use Rattle.seq_values.specs.declared.value.Node.TheFolds.{the_lemmas}
 use Rattle.seq_values.specs.WellFormed.{is_well_formed}
 use Rattle.seq_values.proofs.WellFormedLemmas.{node_in, range_ends}
-use Rattle.seq_plan.specs.Plan.{Plan, visit, seq, go, give, throw, plan_of, last_from, count_from}
+use Rattle.seq_plan.specs.Plan.{visit, seq, go, give, throw, plan_of, last_from, count_from}
 use Rattle.seq_plan.specs.Nodes.{first_of, rest_of, is_nil}
 use Rattle.seq_plan.specs.Cursors.{stands}
 use Rattle.seq_plan.specs.declared.cursor.Cursor.{Cursor}

@@ -1,22 +1,22 @@
 -- Turns of `=` and `not=`.
-use Rattle.std.proofs.Common.{◌≡◌, ℕ, ◌+◌, ◌<◌, Bool, true, false, not, ◌||◌, ◌&&◌, List, [], ◌∷◌, ◌++◌, length, drop, refl, ap, sym, ◌∙◌, arith}
+use Rattle.std.proofs.Common.{◌≡◌, ℕ, ◌<◌, Bool, true, false, not, ◌||◌, ◌&&◌, List, [], ◌∷◌, ◌++◌, length, drop, refl, ap, sym, ◌∙◌, arith}
 use Rattle.seq_base.specs.declared.thrown.Thrown.TheVariants.{Arity, BadType}
 use Rattle.seq_values.specs.Model as M
 use Rattle.seq_values.specs.declared.value.Value.{Value}
 use Rattle.seq_values.specs.Plain.{plain, plains}
-use Rattle.seq_plan.specs.Plan.{Plan, visit, seq, go, give, throw, then, equal_from}
+use Rattle.seq_plan.specs.Plan.{Plan, visit, seq, give, throw, then}
 use Rattle.seq_plan.specs.Nodes.{first_of, rest_of, if_true}
 use Rattle.seq_plan.specs.Cursors.{stands}
 use Rattle.seq_plan.specs.declared.cursor.Cursor.{Cursor}
 use Rattle.seq_plan.proofs.Thens.{then_joins}
-use Rattle.lazy_rows.specs.Equal.{is_incomparable, holds_elements, same_atom, pair_on, equal_call}
+use Rattle.lazy_rows.specs.Equal.{is_incomparable, holds_elements, same_atom, pair_on}
 use Rattle.seq_turns.specs.Turning.{arrives, opens}
 use Rattle.seq_turns.specs.Seen.{rested}
 use Rattle.seq_turns.specs.declared.next.Next.{Next}
 use Rattle.seq_turns.specs.declared.proper.Proper.{Proper}
 use Rattle.seq_turns.specs.declared.places.Rest.{Rest}
 use Rattle.seq_turns.proofs.Taking.{some_cursor, takes_from}
-use Rattle.walk_rules.specs.Left.{left_seq, left_step, answers, args_left, compares, equals, goes_on, resolved, resolved_by, walking, Takes}
+use Rattle.walk_rules.specs.Left.{left_step, args_left, compares, equals, goes_on, resolved, resolved_by, walking, Takes}
 use Rattle.walk_rules.specs.declared.state.AtStep.TheVariants as T
 use Rattle.walk_rules.specs.declared.state.Rests.{Rests}
 use Rattle.walk_rules.specs.declared.state.Pending.{Pending}

@@ -1,11 +1,11 @@
 -- Turns of `vec`, `reverse` and `apply`.
-use Rattle.std.proofs.Common.{◌≡◌, ◌≢◌, ℕ, zero, suc, ◌+◌, ◌-◌, ◌<◌, ◌≤◌, Bool, true, false, cond, nat_le, List, [], ◌∷◌, ◌++◌, map, reverse, length, drop, refl, ap, sym, ◌∙◌, append_assoc, arith}
-use Rattle.std.proofs.lemmas.List.{length-map, map-append, append-nil}
+use Rattle.std.proofs.Common.{◌≡◌, ℕ, zero, suc, ◌+◌, ◌-◌, ◌<◌, ◌≤◌, Bool, true, false, cond, nat_le, List, [], ◌∷◌, ◌++◌, length, drop, refl, ap, sym, ◌∙◌, append_assoc, arith}
+use Rattle.std.proofs.lemmas.List.{map-append, append-nil}
 use Rattle.seq_base.specs.declared.thrown.Thrown.TheVariants.{Arity, Overflow}
 use Rattle.seq_values.specs.Model as M
 use Rattle.seq_values.specs.Plain.{plain, plains}
 use Rattle.seq_values.specs.declared.value.Value.{Value}
-use Rattle.seq_plan.specs.Plan.{Plan, visit, seq, go, call, give, throw, then, plan_of, gather_from}
+use Rattle.seq_plan.specs.Plan.{Plan, visit, seq, go, call, give, throw, then, gather_from}
 use Rattle.seq_plan.specs.Nodes.{first_of, rest_of, with_members, longest}
 use Rattle.seq_plan.specs.Cursors.{stands}
 use Rattle.seq_plan.specs.declared.cursor.Cursor.{Cursor}

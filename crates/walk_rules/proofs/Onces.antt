@@ -1,5 +1,5 @@
 -- Turns of the words that take one seq, where there is an element.
-use Rattle.std.proofs.Common.{◌≡◌, ℕ, false, refl}
+use Rattle.std.proofs.Common.{false}
 use Rattle.seq_values.specs.Model as M
 use Rattle.seq_plan.specs.Plan.{seq, give}
 use Rattle.seq_plan.specs.Nodes.{first_of, rest_of}

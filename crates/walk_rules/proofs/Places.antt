@@ -1,5 +1,5 @@
 -- Turns of `nth`.
-use Rattle.std.proofs.Common.{◌≡◌, ◌≢◌, ℕ, zero, suc, ◌+◌, ◌<◌, ◌≤◌, ℤ, pos, negsuc, ◌-ℤ◌, ◌&&◌, true, false, int_le, int_lt, List, [], ◌∷◌, map, length, drop, Option, Some, None, refl, ap, sym, subst, ◌∙◌, arith}
+use Rattle.std.proofs.Common.{◌≡◌, ◌≢◌, ℕ, zero, suc, ◌+◌, ◌<◌, ◌≤◌, ℤ, pos, negsuc, ◌-ℤ◌, true, false, int_le, int_lt, List, [], ◌∷◌, length, drop, Option, Some, None, refl, ap, sym, ◌∙◌, arith}
 use Rattle.std.specs.Prelude.{unsigned_abs}
 use Rattle.std.proofs.lemmas.List.{length-map}
 use Rattle.std.proofs.lemmas.Int.{ints}
@@ -7,7 +7,7 @@ use Rattle.seq_base.specs.declared.thrown.Thrown.TheVariants.{Arity, BadType}
 use Rattle.seq_values.specs.Model as M
 use Rattle.seq_values.specs.Plain.{plain, plains}
 use Rattle.seq_values.specs.declared.value.Value.{Value}
-use Rattle.seq_plan.specs.Plan.{Plan, visit, seq, go, give, throw, plan_of, nth_from}
+use Rattle.seq_plan.specs.Plan.{visit, seq, give, throw, plan_of, nth_from}
 use Rattle.seq_plan.specs.Nodes.{first_of, rest_of, value_at}
 use Rattle.seq_plan.specs.Cursors.{stands}
 use Rattle.seq_plan.specs.declared.cursor.Cursor.{Cursor}

@@ -1,12 +1,12 @@
 -- Turns of `reduce` and `into`.
-use Rattle.std.proofs.Common.{◌≡◌, ◌≢◌, ℕ, true, false, List, [], ◌∷◌, length, refl, ap, sym, ◌∙◌}
+use Rattle.std.proofs.Common.{◌≡◌, ◌≢◌, ℕ, false, List, [], ◌∷◌, length, refl, ap, sym, ◌∙◌}
 use Rattle.seq_base.specs.declared.thrown.Thrown.TheVariants.{Arity}
 use Rattle.seq_values.specs.Model as M
 use Rattle.seq_values.specs.Plain.{plain, plains}
 use Rattle.seq_values.specs.declared.value.Value.{Value}
 use Rattle.seq_values.specs.declared.words.Builtin.TheVariants as B
 use Rattle.seq_values.specs.declared.words.Target.TheVariants as F
-use Rattle.seq_plan.specs.Plan.{Plan, visit, seq, go, call, give, throw, reduce_from}
+use Rattle.seq_plan.specs.Plan.{Plan, visit, seq, call, give, throw, reduce_from}
 use Rattle.seq_plan.specs.Nodes.{first_of, rest_of}
 use Rattle.seq_plan.specs.Cursors.{stands}
 use Rattle.seq_plan.specs.declared.cursor.Cursor.{Cursor}

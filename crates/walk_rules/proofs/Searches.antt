@@ -4,7 +4,7 @@ use Rattle.seq_base.specs.declared.thrown.Thrown.TheVariants.{Arity}
 use Rattle.seq_values.specs.Model as M
 use Rattle.seq_values.specs.Plain.{plain, plains}
 use Rattle.seq_values.specs.declared.value.Value.{Value}
-use Rattle.seq_plan.specs.Plan.{Plan, visit, seq, go, call, give, throw, doall_from, every_from, some_from}
+use Rattle.seq_plan.specs.Plan.{visit, seq, go, call, give, throw, doall_from, every_from, some_from}
 use Rattle.seq_plan.specs.Nodes.{first_of, rest_of, is_truthy}
 use Rattle.seq_plan.specs.Cursors.{stands}
 use Rattle.seq_plan.specs.declared.cursor.Cursor.{Cursor}

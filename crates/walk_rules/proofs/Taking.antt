@@ -1,5 +1,5 @@
 -- A turn that takes a node takes it of each plan that may be passed on to the node.
-use Rattle.std.proofs.Common.{◌≡◌, ℕ, true, List, refl, sym, ap, ◌∙◌}
+use Rattle.std.proofs.Common.{◌≡◌, ℕ, true, List, sym, ap}
 use Rattle.seq_values.specs.Model as M
 use Rattle.seq_values.specs.Plain.{plain}
 use Rattle.seq_plan.specs.Plan.{Plan, Loop, go, seq, give, plan_of}

@@ -1,9 +1,9 @@
 -- The plan that a rule has left, by where it stands and what it is told.
-use Rattle.std.specs.Prelude.{ℕ, ◌++◌, ℤ, pos, ◌+ℤ◌, int_lt, Bool, true, false, not, cond, List, [], ◌∷◌, reverse, drop, Option, Some, None}
+use Rattle.std.specs.Prelude.{ℕ, ◌++◌, pos, ◌+ℤ◌, int_lt, Bool, true, false, not, cond, List, [], ◌∷◌, reverse, drop, Option, Some, None}
 use Rattle.seq_base.specs.declared.thrown.Thrown.TheVariants.{BadType}
 use Rattle.seq_values.specs.Model as M
 use Rattle.seq_values.specs.Plain.{plain, plains}
-use Rattle.seq_plan.specs.Plan.{Plan, visit, seq, call, go, give, throw, then, plan_of, Told, begun, done, got, told_made, Loop, nth_from, last_from, count_from, gather_from, doall_from, every_from, some_from, equal_from, reduce_from}
+use Rattle.seq_plan.specs.Plan.{Plan, visit, seq, call, go, give, throw, then, plan_of, Told, begun, done, got, Loop, nth_from, last_from, count_from, gather_from, doall_from, every_from, some_from, equal_from, reduce_from}
 use Rattle.seq_plan.specs.Nodes.{first_of, rest_of, is_nil, is_truthy, if_nil, if_true, give_value, with_members}
 use Rattle.seq_plan.specs.Lists.{list_of}
 use Rattle.seq_plan.specs.Cursors.{stands}

@@ -3,7 +3,6 @@ use Rattle.seq_values.specs.Model as M
 use Rattle.seq_plan.specs.Plan.{seq, go, give, ahead_from}
 use Rattle.std.proofs.Common.{w64}
 use Rattle.std.proofs.lemmas.Int.{to_z-of_z}
-use Rattle.seq_turns.specs.Seen.{rested}
 use Rattle.seq_plan.specs.Cursors.{stands}
 use Rattle.seq_values.specs.Plain.{plain}
 use Rattle.ahead_rules.proofs.Moves.{handed, handed_ok}

@@ -1,6 +1,6 @@
 use Rattle.seq_turns.proofs.Taking.{in_ok}
 use Rattle.ahead_rules.specs.Left.{running}
-use Rattle.std.proofs.Common.{rules, arith, w64, ◌∙◌, ◌∷◌, []}
+use Rattle.std.proofs.Common.{rules, arith, w64, ◌∷◌, []}
 use Rattle.std.proofs.lemmas.Int.{to_z-of_z}
 use Rattle.seq_values.specs.Model as M
 use Rattle.seq_plan.specs.Plan.{seq, go, give, ahead_from}

@@ -8,4 +8,4 @@ pub returns-in-None : goal.returns-in-None
 returns-in-None c = next_misfit c.args.chunk c.args.args.items c.throws.result (rw c.in-None.is at c.in_ok-pair.ensures) c.throws.ensures
 
 pub returns-in-Some : goal.returns-in-Some
-returns-in-Some c = ok_same c.next_one.result (pair_begins c.args.chunk O.Next c.args.args.items c.in-Some.pair.first.value c.in-Some.pair.second.value _ (rw c.in-Some.is at c.in_ok-pair.ensures) refl) c.next_one.ensures
+returns-in-Some c = ok_same c.next_one.result (pair_begins c.args.chunk O.Next c.args.args.items c.in-Some.pair.0.value c.in-Some.pair.1.value _ (rw c.in-Some.is at c.in_ok-pair.ensures) refl) c.next_one.ensures

@@ -1,4 +1,4 @@
-use Rattle.std.proofs.Common.{◌≡◌, ◌∷◌, ◌++◌, drop}
+use Rattle.std.proofs.Common.{◌≡◌, ◌++◌, drop}
 use Rattle.lazy_rules.proofs.made_terms.with_tail.Given as goal
 
 abbrev pub invariant-loop-place : goal.invariant-loop-place

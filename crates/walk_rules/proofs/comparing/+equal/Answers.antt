@@ -1,8 +1,7 @@
-use Rattle.std.proofs.Common.{◌≡◌, ◌<◌, List, [], ◌∷◌, ◌++◌, length, drop, true, sym, ap, ◌∙◌, rules, arith, length-drop}
+use Rattle.std.proofs.Common.{◌≡◌, ◌<◌, [], ◌∷◌, ◌++◌, length, drop, true, sym, ap, ◌∙◌, rules, arith, length-drop}
 use Rattle.seq_turns.specs.Seen.{seen, rested}
 use Rattle.seq_turns.proofs.Taking.{in_ok, takes_found}
 use Rattle.seq_values.specs.Model as M
-use Rattle.seq_values.specs.declared.value.Value.{Value}
 use Rattle.seq_values.specs.Plain.{plains}
 use Rattle.seq_plan.specs.Plan.{seq}
 use Rattle.walk_rules.specs.Left.{args_left, compares, resolved, resolved_by, walking}
