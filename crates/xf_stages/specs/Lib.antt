@@ -1,0 +1,4 @@
+pub mod Left
+pub mod Opening
+pub mod Reacting
+pub mod Flowing
