@@ -21,10 +21,11 @@ use Rattle.xf_stages.specs.declared.state.UnderWay.TheVariants as U
 -- ## Another stage in a place
 
 pub puts_twice : (f h g : Flow) (at : ℕ) (a b : Stage) → Puts f at a h → Puts h at b g → Puts f at b g
-puts_twice f h g at a b p q = record
-  { stages = q.stages ∙ ap (λ l. slice_set l at b) p.stages ∙ set-set f.stages.items at a b
-  ; walks = q.walks ∙ p.walks
-  ; under_way = q.under_way ∙ p.under_way }
+puts_twice f h g at a b p q = record {
+  stages = q.stages ∙ ap (λ l. slice_set l at b) p.stages ∙ set-set f.stages.items at a b;
+  walks = q.walks ∙ p.walks;
+  under_way = q.under_way ∙ p.under_way;
+}
 
 pub puts_long : (f g : Flow) (at : ℕ) (s : Stage) → Puts f at s g → length g.stages.items ≡ length f.stages.items
 puts_long f g at s p = ap length p.stages ∙ length-set f.stages.items at s
@@ -33,7 +34,7 @@ abbrev pub rest_stages : UnderWay → List (M.Value ℕ) → List (M.Value ℕ)
 rest_stages (U.Input last) l = l
 rest_stages (U.Completion from) l = []
 
-rests_as : (f : Flow) → at_rest f ≡ rest_stages f.under_way (stages_stand f.stages.items)
+pub rests_as : (f : Flow) → at_rest f ≡ rest_stages f.under_way (stages_stand f.stages.items)
 rests_as f = by f.under_way refl
   where
     by : (u : UnderWay) → f.under_way ≡ u → at_rest f ≡ rest_stages u (stages_stand f.stages.items)
@@ -69,7 +70,7 @@ module _ (f g : Flow) (at : ℕ) (s t : Stage) (within : at < length f.stages.it
   upto : take (at + 1) (states_stand g.stages.items) ≡ take at (states_stand f.stages.items) ++ state_value t ∷ []
   upto = ap (take (at + 1)) puts_states ∙ take_more_set (states_stand f.stages.items) at (state_value t) states_within
 
-  behind : drop (at + 1) (states_stand g.stages.items) ≡ drop (at + 1) (states_stand f.stages.items)
+  pub behind : drop (at + 1) (states_stand g.stages.items) ≡ drop (at + 1) (states_stand f.stages.items)
   behind = ap (drop (at + 1)) puts_states ∙ drop-set-lt (at + 1) (states_stand f.stages.items) at (state_value t) (omega arith)
 
   all : states_stand g.stages.items ≡ take at (states_stand f.stages.items) ++ (state_value t ∷ drop (at + 1) (states_stand f.stages.items))
@@ -112,20 +113,21 @@ module _ (f g : Flow) (at : ℕ) (s t : Stage) (within : at < length f.stages.it
   keeps_weight = λ i. to_complete (p.under_way i) (puts_long f g at t p i) * (puts_long f g at t p i + 3) + length (p.walks i)
 
   pub keeps_all : Keeps f g
-  keeps_all = record
-    { rests = rests_as g ∙ (λ i. rest_stages (p.under_way i) (puts_stages i)) ∙ sym (rests_as f)
-    ; count = puts_long f g at t p
-    ; weight = keeps_weight }
+  keeps_all = record {
+    rests = rests_as g ∙ (λ i. rest_stages (p.under_way i) (puts_stages i)) ∙ sym (rests_as f);
+    count = puts_long f g at t p;
+    weight = keeps_weight;
+  }
 
 -- ## A stage takes an input, or its function has answered
 
 enters_stage : (f : Flow) (at : ℕ) (s : Stage) (x : M.Value ℕ) → drop at f.stages.items ≡ s ∷ drop (at + 1) f.stages.items → (sink : Sink ℕ) (k : Onward ℕ) → entering f at x sink k ≡ stage_on (stage_value s) (state_value s) x (effected f at sink k)
 enters_stage f at s x e sink k = (λ i. enter (first i) (second i) sink x on) ∙ (λ i. stage_on (stage_value s) (state_value s) x (λ new. by_effect
-      (λ y. enter (later i) (states i) sink y (with_state new on))
-      (λ y. enter (later i) (states i) sink y (with_last new on))
-      (λ c. enter_each (later i) (states i) sink c (with_state new on))
-      (on (new ∷ states i) sink false)
-      (on (new ∷ states i) sink true)))
+    (λ y. enter (later i) (states i) sink y (with_state new on))
+    (λ y. enter (later i) (states i) sink y (with_last new on))
+    (λ c. enter_each (later i) (states i) sink c (with_state new on))
+    (on (new ∷ states i) sink false)
+    (on (new ∷ states i) sink true)))
   where
     on : Onward ℕ
     on = from_stage at (states_stand f.stages.items) (after_input f k)
@@ -143,11 +145,13 @@ enters_stage f at s x e sink k = (λ i. enter (first i) (second i) sink x on) �
     states = sym (drop-map state_value (at + 1) f.stages.items)
 
 pub reacts_as : (f g : Flow) (at : ℕ) (s : Stage) (x : M.Value ℕ) (r : Reacted) → at < length f.stages.items → drop at f.stages.items ≡ s ∷ drop (at + 1) f.stages.items → Puts f at r.stage g → Reacts s x r → (e : Effected) → e.flow ≡ g → e.effect ≡ r.effect → Affects f at (entering f at x) e
-reacts_as f g at s x r b there p q e ef ee = record
-  { goes = λ sink k. enters_stage f at s x there sink k ∙ q.goes (effected f at sink k) ∙ effect_goes f g at s r.stage b there p q.same r.effect sink k ∙ (λ i. effect_course (sym ee i) (sym ef i) at sink k)
-  ; keeps = subst (λ z. Keeps f z) (sym ef) (keeps_all f g at s r.stage b there p q.same) }
+reacts_as f g at s x r b there p q e ef ee = record {
+  goes = λ sink k. enters_stage f at s x there sink k ∙ q.goes (effected f at sink k) ∙ effect_goes f g at s r.stage b there p q.same r.effect sink k ∙ (λ i. effect_course (sym ee i) (sym ef i) at sink k);
+  keeps = subst (λ z. Keeps f z) (sym ef) (keeps_all f g at s r.stage b there p q.same);
+}
 
 pub answers_as : (w : AtCall) (g : Flow) (s : Stage) (y : M.Value ℕ) (r : Reacted) → drop w.at w.flow.stages.items ≡ s ∷ drop (w.at + 1) w.flow.stages.items → Puts w.flow w.at r.stage g → Answers s (plain w.kept.value) y r → (e : Effected) → e.flow ≡ g → e.effect ≡ r.effect → Affects w.flow w.at (left_call w y) e
-answers_as w g s y r there p q e ef ee = record
-  { goes = λ sink k. (λ i. first_answered (there i) (plain w.kept.value) y (effected w.flow w.at sink k)) ∙ q.goes (effected w.flow w.at sink k) ∙ effect_goes w.flow g w.at s r.stage w.within there p q.same r.effect sink k ∙ (λ i. effect_course (sym ee i) (sym ef i) w.at sink k)
-  ; keeps = subst (λ z. Keeps w.flow z) (sym ef) (keeps_all w.flow g w.at s r.stage w.within there p q.same) }
+answers_as w g s y r there p q e ef ee = record {
+  goes = λ sink k. (λ i. first_answered (there i) (plain w.kept.value) y (effected w.flow w.at sink k)) ∙ q.goes (effected w.flow w.at sink k) ∙ effect_goes w.flow g w.at s r.stage w.within there p q.same r.effect sink k ∙ (λ i. effect_course (sym ee i) (sym ef i) w.at sink k);
+  keeps = subst (λ z. Keeps w.flow z) (sym ef) (keeps_all w.flow g w.at s r.stage w.within there p q.same);
+}

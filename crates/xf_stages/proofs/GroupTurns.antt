@@ -51,14 +51,16 @@ full_as : (n : ℤ) (items : List Value) (v : M.Value ℕ) (b : Bool) (k : OnEff
 full_as n items v b k e q = ap (λ z. cond z (k (M.vector M.no_values) (passes v)) (k v passes_nothing)) (ap (λ l. int_le n (pos l)) (members_long items v e) ∙ sym q)
 
 pub full_passes : (n m : ℤ) (items : List Value) (v : M.Value ℕ) (b : Bool) (r : Reacted) → m ≡ n → M.vector (M.values (plains items)) ≡ v → b ≡ int_le m (pos (length items)) → b ≡ true → stage_value r.stage ≡ parts m → ((k : OnEffect) → effect_plan r.stage r.effect k ≡ k (M.vector M.no_values) (passes (M.vector (M.values (plains items))))) → Comes (parts n) (group_full n v) r
-full_passes n m items v b r en e q t same h = record
-  { same = same ∙ ap parts en
-  ; goes = λ k. full_as n items v b k e (q ∙ ap (λ z. int_le z (pos (length items))) en) ∙ ap (λ z. cond z (k (M.vector M.no_values) (passes v)) (k v passes_nothing)) t ∙ ap (λ w. k (M.vector M.no_values) (passes w)) (sym e) ∙ sym (h k) }
+full_passes n m items v b r en e q t same h = record {
+  same = same ∙ ap parts en;
+  goes = λ k. full_as n items v b k e (q ∙ ap (λ z. int_le z (pos (length items))) en) ∙ ap (λ z. cond z (k (M.vector M.no_values) (passes v)) (k v passes_nothing)) t ∙ ap (λ w. k (M.vector M.no_values) (passes w)) (sym e) ∙ sym (h k);
+}
 
 pub part_waits : (n m : ℤ) (items : List Value) (v : M.Value ℕ) (b : Bool) (g : Group) → m ≡ n → M.vector (M.values (plains items)) ≡ v → b ≡ int_le m (pos (length items)) → b ≡ false → g.size ≡ n → g.items ≡ items → Comes (parts n) (group_full n v) (record { stage = S.PartitionAll g; effect = E.PassesNothing })
-part_waits n m items v b g en e q t es ei = record
-  { same = ap parts es
-  ; goes = λ k. full_as n items v b k e (q ∙ ap (λ z. int_le z (pos (length items))) en) ∙ ap (λ z. cond z (k (M.vector M.no_values) (passes v)) (k v passes_nothing)) t ∙ ap (λ w. k w passes_nothing) (sym e ∙ ap (λ l. M.vector (M.values (plains l))) (sym ei)) }
+part_waits n m items v b g en e q t es ei = record {
+  same = ap parts es;
+  goes = λ k. full_as n items v b k e (q ∙ ap (λ z. int_le z (pos (length items))) en) ∙ ap (λ z. cond z (k (M.vector M.no_values) (passes v)) (k v passes_nothing)) t ∙ ap (λ w. k w passes_nothing) (sym e ∙ ap (λ l. M.vector (M.values (plains l))) (sym ei));
+}
 
 module _ (g : Group) (x : M.Value ℕ) where
   group_plan : (m : Made) → Makes (vector_of (plains g.items ++ x ∷ [])) m → (k : OnEffect) → group_one g.size (M.list (M.values (plains g.items)) ++ x ∷ []) k ≡ made m (λ v. group_full g.size v k)

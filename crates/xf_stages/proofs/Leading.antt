@@ -7,7 +7,10 @@ use Rattle.seq_plan.specs.Stages.{Sink, Onward}
 use Rattle.seq_turns.specs.Turning.{Silent, arrives, opens, finds}
 use Rattle.seq_turns.proofs.Taking.{joins}
 use Rattle.stage_rows.specs.Table.{stage_round}
-use Rattle.xf_stages.specs.Left.{Course, StageSilent, Goes, is_enter_loop}
+use Rattle.seq_values.specs.Plain.{plain}
+use Rattle.seq_turns.specs.declared.proper.Proper.{Proper}
+use Rattle.xf_stages.specs.Left.{Course, StageSilent, Goes, at_rest, entering, through, is_enter_loop}
+use Rattle.xf_stages.specs.declared.state.Flow.{Flow}
 use Rattle.xf_stages.specs.Flowing.{Leads}
 use Rattle.xf_stages.specs.declared.state.Passing.{Passing}
 use Rattle.xf_stages.specs.declared.state.Passing.TheVariants as G
@@ -26,6 +29,11 @@ silent_more h arrives = arrives
 silent_more h (opens {l = l} o s) = opens (h l o) (silent_more h s)
 silent_more h (finds e s) = finds e (silent_more h s)
 
+-- what a callee may have
+pub in_ok : {X E : Type 0} {P Q : X → Type 0} (r : Result X E) → ((x : X) → P x → Q x) → IfOk r P → IfOk r Q
+in_ok (Ok x) f h = f x h
+in_ok (Err e) f h = tt
+
 module _ {stages : List (M.Value ℕ)} where
   -- what is passed on to a course that leads further leads there too
   pub leads_from : {p q : Course} {r : Passing} → Passes p q → Leads stages q r → Leads stages p r
@@ -40,11 +48,6 @@ module _ {stages : List (M.Value ℕ)} where
   pub goes_same : {p q : Course} {r : StageTurn} → ((sink : Sink ℕ) (k : Onward ℕ) → p sink k ≡ q sink k) → Goes stages q r → Goes stages p r
   goes_same e h = goes_from (λ sink k. same_plan (e sink k)) h
 
-  -- the same for what a callee may have
-  pub in_ok : {X E : Type 0} {P Q : X → Type 0} (r : Result X E) → ((x : X) → P x → Q x) → IfOk r P → IfOk r Q
-  in_ok (Ok x) f h = f x h
-  in_ok (Err e) f h = tt
-
   -- a turn that is due
   pub turned : {p : Course} {t : StageTurn} → Leads stages p (G.Turned t) → Goes stages p t
   turned h = record { goes = h.goes; step = h.step; rests = h.rests }
@@ -52,3 +55,10 @@ module _ {stages : List (M.Value ℕ)} where
 -- the stages that stand at rest are the same
 pub leads_at : {a b : List (M.Value ℕ)} {p : Course} {r : Passing} → a ≡ b → Leads a p r → Leads b p r
 leads_at {p = p} {r = r} e h = subst (λ l. Leads l p r) e h
+
+-- what goes on from where an input stands
+pub enters_next : {stages : List (M.Value ℕ)} {p : Course} (f : Flow) (at : ℕ) (x : Proper) (r : Passing) → Leads stages p (G.Entering f at x) → Leads (at_rest f) (entering f at (plain x.value)) r → Leads stages p r
+enters_next f at x r h l = leads_at h.rests (leads_from h.goes l)
+
+pub through_next : {stages : List (M.Value ℕ)} {p : Course} (f : Flow) (done : Bool) (r : Passing) → Leads stages p (G.Through f done) → Leads (at_rest f) (through f done) r → Leads stages p r
+through_next f done r h l = leads_at h.rests (leads_from h.goes l)

@@ -5,3 +5,6 @@ pub mod EffectTurns
 pub mod GroupTurns
 pub mod Kept
 pub mod PassTurns
+pub mod CompleteTurns
+pub mod RunTurns
+pub mod OpenTurns

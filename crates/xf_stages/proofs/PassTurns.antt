@@ -88,10 +88,11 @@ enters_last_lighter f g at h =
 -- ## Walks
 
 pub asks_leads : (w : AtSeq) (rest v : M.Value ℕ) (x : Proper) → v ≡ rest → (plain x.value ≡ v) × NotNow v → Leads (at_rest w.flow) (walking w.flow w.at rest) (G.Turned (R.Seq w x))
-asks_leads w rest v x e q = record
-  { goes = λ sink k. same_plan (ap (λ s. seq s (λ t. left_seq w t sink k)) (sym (q.0 ∙ e)))
-  ; step = subst NotNow (sym q.0) q.1
-  ; rests = refl }
+asks_leads w rest v x e q = record {
+  goes = λ sink k. same_plan (ap (λ s. seq s (λ t. left_seq w t sink k)) (sym (q.0 ∙ e)));
+  step = subst NotNow (sym q.0) q.1;
+  rests = refl;
+}
 
 pub now_leads : (f : Flow) (at : ℕ) (rest s : M.Value ℕ) (p : Passing) → found rest ≡ now s → Leads (at_rest f) (walk_left f at s) p → Leads (at_rest f) (walking f at rest) p
 now_leads f at rest s p e h = leads_from (seeks_now f at rest s e) h
@@ -112,10 +113,10 @@ one_more_waits f g w h e k =
     ∙ waits_last f.walks.items w (stages_stand f.stages.items) (at_end f.under_way (stages_stand f.stages.items) k)
 
 pub step_leads : (w : AtStep) (g : Flow) (x : Proper) (rest : Rest) → plain x.value ≡ first_of (stands w.place) → rested rest ≡ rest_of (stands w.place) → SameButWalks w.flow g → g.walks.items ≡ w.flow.walks.items ++ record { at = w.at; rest = rest } ∷ [] → Leads (at_rest w.flow) (left_step w) (G.Entering g w.at x)
-step_leads w g x rest e1 e2 h e = record { goes = λ sink k. same_plan (as sink k); step = tt; rests = same_walks_rests w.flow g h }
+step_leads w g x rest e1 e2 h e = record { goes = λ sink k. same_plan (on_plan sink k); step = tt; rests = same_walks_rests w.flow g h }
   where
-    as : (sink : Sink ℕ) (k : Onward ℕ) → left_step w sink k ≡ entering g w.at (plain x.value) sink k
-    as sink k = λ i. enter
+    on_plan : (sink : Sink ℕ) (k : Onward ℕ) → left_step w sink k ≡ entering g w.at (plain x.value) sink k
+    on_plan sink k = λ i. enter
         (drop w.at (stages_stand (sym h.stages i))) (drop w.at (states_stand (sym h.stages i))) sink (sym e1 i)
         (λ new after done. on i (take w.at (states_stand (sym h.stages i)) ++ new) after done)
       where
@@ -134,28 +135,28 @@ last_through_lighter f g n h l =
 
 -- the innermost walk goes on
 pub walk_goes : (f g : Flow) (w : Walk) (p : Passing) → SameButWalks f g → f.walks.items ≡ g.walks.items ++ w ∷ [] → Leads (at_rest g) (walking g w.at (rested w.rest)) p → Leads (at_rest f) (through f false) p
-walk_goes f g w p h e l = leads_at (same_walks_rests f g h) (leads_same as l)
+walk_goes f g w p h e l = leads_at (same_walks_rests f g h) (leads_same on_plan l)
   where
     back : SameButWalks g f
     back = record { stages = sym h.stages; under_way = sym h.under_way }
 
-    as : (sink : Sink ℕ) (k : Onward ℕ) → through f false sink k ≡ walking g w.at (rested w.rest) sink k
-    as sink k = (λ i. one_more_waits g f w back e k i (states_stand (sym h.stages i)) sink false)
+    on_plan : (sink : Sink ℕ) (k : Onward ℕ) → through f false sink k ≡ walking g w.at (rested w.rest) sink k
+    on_plan sink k = (λ i. one_more_waits g f w back e k i (states_stand (sym h.stages i)) sink false)
 
 pub walk_lighter : (f g : Flow) (w : Walk) (n : ℕ) → SameButWalks f g → f.walks.items ≡ g.walks.items ++ w ∷ [] → n ≤ flow_weight g + 1 → n < flow_weight f + 1
 walk_lighter f g w n h e l =
     let q : flow_weight f ≡ flow_weight g + 1 =
-        (λ i. to_complete (sym h.under_way i) (length (sym h.stages i)) * (length (sym h.stages i) + 3) + length (e i))
-        ∙ ap (λ m. to_complete g.under_way (length g.stages.items) * (length g.stages.items + 3) + m) (length_push g.walks.items w)
-        ∙ omega arith in
+    (λ i. to_complete (sym h.under_way i) (length (sym h.stages i)) * (length (sym h.stages i) + 3) + length (e i))
+    ∙ ap (λ m. to_complete g.under_way (length g.stages.items) * (length g.stages.items + 3) + m) (length_push g.walks.items w)
+    ∙ omega arith in
     omega (arith, q, l)
 
 -- nothing waits
 pub none_goes : (f g : Flow) (p : Passing) → SameButWalks f g → f.walks.items ≡ g.walks.items ++ [] → Leads (at_rest g) (through g false) p → Leads (at_rest f) (through f false) p
-none_goes f g p h e l = leads_at (same_walks_rests f g h) (leads_same as l)
+none_goes f g p h e l = leads_at (same_walks_rests f g h) (leads_same on_plan l)
   where
-    as : (sink : Sink ℕ) (k : Onward ℕ) → through f false sink k ≡ through g false sink k
-    as sink k = λ i. waiting ((e ∙ append-nil g.walks.items) i) (stages_stand (sym h.stages i)) (at_end (sym h.under_way i) (stages_stand (sym h.stages i)) k) (states_stand (sym h.stages i)) sink false
+    on_plan : (sink : Sink ℕ) (k : Onward ℕ) → through f false sink k ≡ through g false sink k
+    on_plan sink k = λ i. waiting ((e ∙ append-nil g.walks.items) i) (stages_stand (sym h.stages i)) (at_end (sym h.under_way i) (stages_stand (sym h.stages i)) k) (states_stand (sym h.stages i)) sink false
 
 pub none_lighter : (f g : Flow) (n : ℕ) → SameButWalks f g → f.walks.items ≡ g.walks.items ++ [] → n < flow_weight g + 1 → n < flow_weight f + 1
 none_lighter f g n h e l = subst (λ m. n < m + 1) (λ i. to_complete (h.under_way i) (length (h.stages i)) * (length (h.stages i) + 3) + length ((sym (e ∙ append-nil g.walks.items)) i)) l

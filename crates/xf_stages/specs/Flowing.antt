@@ -105,12 +105,12 @@ pub record Lasts (f g : Flow) : Type 0 where
   pub under_way : g.under_way ≡ last_way f.under_way
 
 -- whether a stage has a group that its completion passes on
+abbrev pub is_some : {A : Type 0} → List A → Bool
+is_some [] = false
+is_some (x ∷ xs) = true
+
 abbrev pub has_group : Stage → Bool
 has_group (S.PartitionAll g) = is_some g.items
-  where
-    is_some : {A : Type 0} → List A → Bool
-    is_some [] = false
-    is_some (x ∷ xs) = true
 has_group _ = false
 
 -- the stages from a place on complete as those from another

@@ -1,16 +1,20 @@
 -- Which stages a value has, and the states that stages keep between two inputs.
-use Rattle.std.specs.Prelude.{◌≡◌, ℕ, List, [], ◌∷◌, ◌++◌, Option, Some, None, true}
+use Rattle.std.specs.Prelude.{◌≡◌, ℕ, List, [], ◌∷◌, ◌++◌, ◌≤◌, ◌<◌, length, Option, Some, None, true}
+use Rattle.seq_base.specs.declared.thrown.Thrown.TheVariants.{Overflow}
 use Rattle.seq_values.specs.Model as M
+use Rattle.seq_values.specs.Plain.{plains}
 use Rattle.seq_values.specs.Sight.{Sight, a_function, Kept}
 use Rattle.seq_values.specs.WellFormedTerms.{are_states}
 use Rattle.seq_values.specs.declared.value.Value.{Value}
 use Rattle.seq_plan.specs.Plan.{Plan, throw}
+use Rattle.seq_plan.specs.Nodes.{longest}
 use Rattle.seq_plan.specs.Keeping.{kept_of}
 use Rattle.seq_plan.specs.Stages.{fresh}
 use Rattle.seq_plan.specs.WellFormed.{sights}
 use Rattle.seq_turns.specs.declared.made.Grown.{Grown}
 use Rattle.seq_turns.specs.declared.made.Grown.TheVariants as G
 use Rattle.xf_stages.specs.Left.{stages_in, states_in}
+use Rattle.xf_stages.specs.declared.state.Stage.{Stage}
 use Rattle.xf_stages.specs.declared.state.Stages.{Stages}
 use Rattle.xf_stages.specs.declared.state.Opened.{Opened}
 use Rattle.xf_stages.specs.declared.state.Opened.TheVariants as O
@@ -54,3 +58,8 @@ pub record AddsStates (kept : List Kept) (before after : List Value) : Type 0 wh
 abbrev pub IfGrown : Grown → (List Value → Type 0) → Type 0
 IfGrown (G.All all) p = p all.items.items
 IfGrown G.TooMany p = Unit {0}
+
+-- these stages, unless they are more than a list may have
+abbrev pub LimitedTo : List Stage → Opened → Type 0
+LimitedTo ss (O.Stages s) = (s.stages.items ≡ ss) × (length ss ≤ longest)
+LimitedTo ss (O.Thrown why) = (why ≡ Overflow) × (longest < length ss)

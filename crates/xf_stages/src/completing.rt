@@ -1,5 +1,5 @@
 //! Nothing waits any more: an input is at its end, or the completion goes on.
-ghost use Rattle.std.specs.Prelude.{◌≡◌, ◌<◌, ◌≤◌, ◌+◌, ◌-◌, ◌*◌, Bool, [], length, drop, true, MatchOption};
+ghost use Rattle.std.specs.Prelude.{◌≡◌, ◌<◌, ◌≤◌, ◌+◌, ◌-◌, ◌*◌, ◌||◌, Bool, [], length, drop, true, MatchOption};
 ghost use Rattle.seq_values.specs.Plain.{plain};
 ghost use Rattle.xf_stages.specs.Flowing.{Leads, weight, flow_weight, completing, first_has_group, CompletesAll, GroupAt, has_group};
 ghost use Rattle.xf_stages.specs.Left.{at_rest, stage_value, state_value, through};
@@ -19,18 +19,19 @@ pub(crate) fn finish(alloc: Global, flow: Flow, done: bool) -> Passing
     ensures lighter { weight result < flow_weight flow + 1 }
 {
     match flow.under_way {
-        UnderWay::Input { last } => Passing::Turned(StageTurn::Rest(rests(flow, last || done))),
+        UnderWay::Input { last } => Passing::Turned(StageTurn::Rest(rests(flow, last, done))),
         UnderWay::Completion { from } => completes(alloc, flow, from),
     }
 }
 
 /// The stages between two inputs.
-fn rests(flow: Flow, done: bool) -> Stages
+fn rests(flow: Flow, last: bool, done: bool) -> Stages
     ensures stages { result.stages.items ≡ flow.stages.items }
-    ensures done { result.done ≡ done }
+    ensures done { result.done ≡ (last || done) }
 {
     let Flow { stages, walks, .. } = flow;
     let_go(walks);
+    let done = last || done;
     Stages { stages, done }
 }
 
@@ -46,6 +47,7 @@ fn completed(alloc: Global, flow: Flow) -> Stages
     }
 }
 
+#[tactic(auto, using(crate::proofs::CompleteTurns::some_items))]
 /// Whether the completion of a stage passes on a group.
 fn holds_group(stage: &Stage) -> bool
     ensures { result ≡ has_group stage.now }
@@ -61,13 +63,22 @@ fn holds_group(stage: &Stage) -> bool
     }
 }
 
+/// Whether the completion of the stage at a place passes on a group.
+#[tactic(auto, using(crate::proofs::CompleteTurns::group_there))]
+fn group_at(stages: &[Stage], at: usize) -> bool
+    requires { at < length stages.now }
+    ensures { result ≡ first_has_group (drop at stages.now) }
+{
+    holds_group(&stages[at])
+}
+
 /// The first stage from a place on whose completion passes on a group.
 fn find_group(flow: &Flow, from: usize) -> Option<usize>
     ensures { MatchOption result (CompletesAll flow.now from) (GroupAt flow.now from) }
 {
     let mut here = from;
     while here < flow.stages.len() {
-        if holds_group(&flow.stages[here]) {
+        if group_at(&flow.stages, here) {
             return Some(here);
         }
         here += 1;

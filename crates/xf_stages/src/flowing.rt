@@ -8,7 +8,9 @@ ghost use Rattle.xf_stages.specs.declared.state.Stage.TheVariants as S;
 
 use crate::answering::on_answer;
 use crate::reacting::on_input;
-use crate::state::{AtCall, Effected, Flow, Hole, Reacted, Replaced, Stage, UnderWay, Unwound, Walk};
+use crate::state::{
+    AtCall, Effected, Flow, Hole, Reacted, Replaced, Stage, UnderWay, Unwound, Walk,
+};
 use crate::ways::let_go;
 use seq_turns::Proper;
 use seq_vector::NoMemory;

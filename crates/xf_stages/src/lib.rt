@@ -4,6 +4,7 @@
 mod answering;
 mod completing;
 mod flowing;
+mod opening;
 mod passing;
 mod reacting;
 mod running;

@@ -5,11 +5,11 @@ ghost use Rattle.seq_values.specs.Plain.{plain};
 ghost use Rattle.xf_stages.specs.Flowing.{Leads, effect_course, entering_last, walk_left, weight, flow_weight, enter_weight};
 ghost use Rattle.xf_stages.specs.Left.{at_rest, entering, through, walking, left_step};
 
+use crate::completing::finish;
 use crate::flowing::{last_of, react, unwound, with_walk};
 use crate::state::{
     AtCall, AtOut, AtSeq, AtStep, Effect, Effected, Flow, Passing, StageTurn, Unwound, Walk,
 };
-use crate::completing::finish;
 use crate::ways::let_go;
 use seq_base::Thrown;
 use seq_turns::{Proper, Rest, Seen, Sought, Split, seek_rest, split_cursor};
@@ -34,7 +34,6 @@ pub(crate) fn enters(
     Ok(on_effect(flow, at, effect))
 }
 
-#[tactic(auto, using(crate::proofs::PassTurns::goes_out_as))]
 /// What passed the last stage is to be reduced or gathered.
 fn goes_out(flow: Flow, at: usize, item: Proper) -> Passing
     requires { length flow.stages.items ≤ at }
@@ -84,7 +83,7 @@ fn throws(flow: Flow, why: Thrown) -> Passing
     Passing::Turned(StageTurn::Throw(why))
 }
 
-#[tactic(auto, using(crate::proofs::PassTurns::enters_last_leads, crate::proofs::PassTurns::enters_last_lighter))]
+#[tactic(auto, using(crate::proofs::PassTurns::enters_last_lighter))]
 /// An input enters the stage at a place, and then all is done.
 fn enters_last(flow: Flow, at: usize, item: Proper) -> Passing
     ensures leads { Leads (at_rest flow) (entering_last flow at (plain item.value)) result }
@@ -109,7 +108,6 @@ pub(crate) fn walk_on(flow: Flow, at: usize, rest: Rest) -> Passing
     }
 }
 
-#[tactic(auto, using(crate::proofs::PassTurns::nil_leads, crate::proofs::PassTurns::some_leads))]
 /// The seq is there, each of whose elements enters the stage at a place.
 pub(crate) fn walk_found(flow: Flow, at: usize, what: Seen) -> Passing
     requires { at ≤ length flow.stages.items }
@@ -151,6 +149,9 @@ pub(crate) fn goes_through(alloc: Global, flow: Flow, done: bool) -> Passing
     let Unwound { flow, walk } = unwound(flow);
     match walk {
         None => finish(alloc, flow, false),
-        Some(Walk { at, rest }) => walk_on(flow, at, rest),
+        Some(walk) => {
+            let Walk { at, rest } = walk;
+            walk_on(flow, at, rest)
+        }
     }
 }

@@ -22,11 +22,11 @@ fn run(alloc: Global, passing: Passing) -> Result<StageTurn, NoMemory>
 {
     let mut here = passing;
     loop {
-        match here {
+        here = match here {
             Passing::Turned(turn) => return Ok(turn),
-            Passing::Entering { flow, at, item } => here = enters(alloc, flow, at, item)?,
-            Passing::Through { flow, done } => here = goes_through(alloc, flow, done),
-        }
+            Passing::Entering { flow, at, item } => enters(alloc, flow, at, item)?,
+            Passing::Through { flow, done } => goes_through(alloc, flow, done),
+        };
     }
 }
 

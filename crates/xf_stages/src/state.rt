@@ -1,12 +1,12 @@
 //! What runs inputs through stages: the stages with their states, and where an input stands.
-ghost use Rattle.std.specs.Prelude.{◌≤◌, ◌<◌, ◌<ℤ◌, pos, length, All, IsTrue};
-ghost use Rattle.seq_values.specs.WellFormed.{is_well_formed};
+ghost use Rattle.std.specs.Prelude.{◌≤◌, ◌<◌, ◌<ℤ◌, pos, length, map, All, IsTrue};
+ghost use Rattle.seq_values.specs.WellFormed.{binds, is_well_formed, sight_of};
 ghost use Rattle.seq_values.specs.declared.value.Value.TheVariants as V;
 
 use seq_base::Thrown;
 use seq_plan::Cursor;
 use seq_turns::{Proper, ProperList, Rest};
-use seq_values::Value;
+use seq_values::{Target, Value};
 use seq_vector::PVec;
 
 /// Why a stage calls its function with an input.
@@ -202,6 +202,48 @@ pub(crate) enum Passing {
     Through { flow: Flow, done: bool },
 }
 
+/// A function with what is bound to it.
+#[derive(Drop)]
+pub(crate) struct Bound {
+    pub(crate) target: Target,
+    pub(crate) items: ProperList,
+    ghost fits: { IsTrue (binds target (map sight_of items.items)) },
+}
+
+/// What a value is as a transducer.
+#[derive(Drop)]
+pub(crate) enum Opening {
+    /// One stage.
+    Stage(Stage),
+    /// A composition of these.
+    Inner(ProperList),
+    /// `identity`, which has no stage.
+    Nothing,
+    /// No transducer.
+    Refused,
+}
+
+/// What is bound to a composition, from a place on.
+#[derive(Drop)]
+pub(crate) struct Frame {
+    pub(crate) items: ProperList,
+    pub(crate) at: usize,
+}
+
+/// Compositions that are still to be opened, the innermost one last, and the stages so far.
+#[derive(Drop)]
+pub(crate) struct Work {
+    pub(crate) frames: Vec<Frame>,
+    pub(crate) stages: Vec<Stage>,
+}
+
+/// The work without its innermost composition, where there is one.
+#[derive(Drop)]
+pub(crate) struct Popped {
+    pub(crate) work: Work,
+    pub(crate) frame: Option<Frame>,
+}
+
 /// The stages of a value, or why it has none.
 #[derive(Drop)]
 pub enum Opened {
@@ -219,11 +261,19 @@ pub enum StageTurn {
         args: ProperList,
     },
     /// The sequence of a value that isn't there at once. `AtSeq::found` goes on.
-    Seq { waiting: AtSeq, value: Proper },
+    Seq {
+        waiting: AtSeq,
+        value: Proper,
+    },
     /// One own step. `AtStep::visited` goes on.
-    Visit { waiting: AtStep },
+    Visit {
+        waiting: AtStep,
+    },
     /// This passed the last stage, and is to be reduced or gathered. `AtOut::passed` goes on.
-    Out { waiting: AtOut, item: Proper },
+    Out {
+        waiting: AtOut,
+        item: Proper,
+    },
     /// A stage throws this error.
     Throw(Thrown),
     /// The input, the collection or the completion is through.
