@@ -8,3 +8,5 @@ pub mod PassTurns
 pub mod CompleteTurns
 pub mod RunTurns
 pub mod OpenTurns
+pub mod StateTurns
+pub mod ReduceTurns

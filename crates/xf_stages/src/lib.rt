@@ -4,9 +4,11 @@
 mod answering;
 mod completing;
 mod flowing;
+mod keeping;
 mod opening;
 mod passing;
 mod reacting;
+mod reducing;
 mod running;
 mod state;
 mod ways;

@@ -244,6 +244,13 @@ pub(crate) struct Popped {
     pub(crate) frame: Option<Frame>,
 }
 
+/// A reducer value taken apart: its outermost stage and its collection, or the collection at the bottom.
+#[derive(Drop)]
+pub(crate) enum Folded {
+    Reducer { stage: Stage, collection: Proper },
+    Bottom(Proper),
+}
+
 /// The stages of a value, or why it has none.
 #[derive(Drop)]
 pub enum Opened {
