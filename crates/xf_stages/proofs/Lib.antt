@@ -10,3 +10,4 @@ pub mod RunTurns
 pub mod OpenTurns
 pub mod StateTurns
 pub mod ReduceTurns
+pub mod RestoreTurns

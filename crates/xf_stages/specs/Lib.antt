@@ -5,3 +5,4 @@ pub mod Reacting
 pub mod Flowing
 pub mod States
 pub mod Reducers
+pub mod Restoring

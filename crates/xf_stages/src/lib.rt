@@ -9,6 +9,7 @@ mod opening;
 mod passing;
 mod reacting;
 mod reducing;
+mod restoring;
 mod running;
 mod state;
 mod ways;

@@ -109,13 +109,13 @@ fn unfold(value: Proper) -> Result<Folded, NoMemory>
     }
 }
 
-fn no_stages(alloc: Global) -> Vec<Stage>
+pub(crate) fn no_stages(alloc: Global) -> Vec<Stage>
     ensures { result.items ≡ [] }
 {
     Vec::new(alloc)
 }
 
-fn and_stage(stages: Vec<Stage>, stage: Stage) -> Result<Vec<Stage>, NoMemory>
+pub(crate) fn and_stage(stages: Vec<Stage>, stage: Stage) -> Result<Vec<Stage>, NoMemory>
     ensures { IfOk result (λ ss. ss.items ≡ stages.items ++ stage ∷ []) }
 {
     let mut stages = stages;
@@ -145,7 +145,7 @@ fn unfold_all(alloc: Global, value: Proper) -> Result<(Vec<Stage>, Proper), NoMe
 }
 
 /// The stages from the last on.
-fn turned(stages: Vec<Stage>) -> Vec<Stage>
+pub(crate) fn turned(stages: Vec<Stage>) -> Vec<Stage>
     ensures { result.items ≡ reverse stages.items }
 {
     let mut stages = stages;

@@ -251,6 +251,20 @@ pub(crate) enum Folded {
     Bottom(Proper),
 }
 
+/// A stage that has its state again, and the place behind it in the list of states.
+#[derive(Drop)]
+pub(crate) struct Restored {
+    pub(crate) stage: Stage,
+    pub(crate) at: usize,
+}
+
+/// Stages without the last one, where there is one.
+#[derive(Drop)]
+pub(crate) struct Taken {
+    pub(crate) stages: Vec<Stage>,
+    pub(crate) stage: Option<Stage>,
+}
+
 /// The stages of a value, or why it has none.
 #[derive(Drop)]
 pub enum Opened {
