@@ -100,3 +100,6 @@ fewer_ahead w x f h =
     let e : calls_ahead (left_out w false (reduces M.nil M.nil) nothing_on) ≡ outputs_ahead f = same_ahead (h.goes (reduces M.nil M.nil) nothing_on) in
     let n : outputs_ahead (F.Out w x) ≡ suc (calls_ahead (left_out w false (reduces M.nil M.nil) nothing_on)) = refl in
     omega (arith, e, n)
+
+pub fewer_out : (flow : Flowed) (w : AtOut) (x : Proper) (f : Flowed) → flow ≡ F.Out w x → Flows (at_rest w.flow) (left_out w false) f → outputs_ahead f < outputs_ahead flow
+fewer_out flow w x f e h = subst (λ g. outputs_ahead f < outputs_ahead g) (sym e) (fewer_ahead w x f h)

@@ -1,5 +1,5 @@
 -- Turns of a pull.
-use Rattle.std.proofs.Common.{◌≡◌, ◌≢◌, ℕ, zero, suc, ◌+◌, ◌<◌, ◌≤◌, pos, int_le, Bool, true, false, cond, List, [], ◌∷◌, ◌++◌, map, length, drop, Option, Some, None, refl, ap, sym, subst, ◌∙◌, rules, arith}
+use Rattle.std.proofs.Common.{◌≡◌, ◌≢◌, ℕ, zero, suc, ◌+◌, ◌<◌, ◌≤◌, pos, int_le, Bool, true, false, cond, List, [], ◌∷◌, ◌++◌, length, drop, Option, Some, None, refl, ap, sym, subst, ◌∙◌, rules, arith}
 use Rattle.std.specs.Prelude.{IsTrue}
 use Rattle.std.proofs.lemmas.List.{length-map}
 use Rattle.seq_base.specs.declared.thrown.Thrown.{Thrown}
@@ -8,20 +8,23 @@ use Rattle.seq_values.specs.Model as M
 use Rattle.seq_values.specs.Model.{◌&◌}
 use Rattle.seq_values.specs.Plain.{plain, plains, plain_term}
 use Rattle.seq_values.specs.Sight.{Kept, Sight, a_nil, a_bool, an_int, a_vector, a_cell, an_empty, a_cons, a_chunked, a_function, another}
-use Rattle.seq_values.specs.WellFormed.{sight_of}
+use Rattle.seq_values.specs.WellFormed.{is_well_formed, are_well_formed}
 use Rattle.seq_values.specs.WellFormedTerms.{takes, is_pull, are_states, is_well_formed_term}
 use Rattle.seq_values.specs.declared.term.Term.{Term}
 use Rattle.seq_values.specs.declared.value.Value.{Value}
 use Rattle.seq_values.specs.declared.words.Kind.TheVariants.{Lazy}
 use Rattle.seq_values.specs.declared.words.Op.{Op}
 use Rattle.seq_values.specs.declared.words.Op.TheVariants as O
-use Rattle.seq_values.proofs.WellFormedLemmas.{term_takes}
+use Rattle.seq_values.proofs.DepthLemmas.{and_parts}
+use Rattle.seq_values.proofs.WellFormedLemmas.{list_keeps}
 use Rattle.seq_plan.specs.Plan.{Plan, visit, seq, make, give, throw, then, go, pull_from}
 use Rattle.seq_plan.specs.Nodes.{first_of, rest_of, with_members, make_term, give_value, with_items}
 use Rattle.seq_plan.specs.Stages.{Sink, gathers, Onward, outputs_of, with_stages, fresh, enter, complete}
 use Rattle.seq_plan.specs.Turns.{node}
 use Rattle.seq_plan.specs.Cursors.{stands}
 use Rattle.seq_plan.specs.declared.cursor.Cursor.{Cursor}
+use Rattle.seq_plan.specs.WellFormed.{sight, sights, WellList, well_end, well_item, WellTerm, well_term}
+use Rattle.seq_plan.proofs.WellValues.{well_formed, term_formed, formed_term}
 use Rattle.seq_plan.proofs.StageLoops.{list_values}
 use Rattle.seq_plan.proofs.StageThens.{then_enter}
 use Rattle.seq_turns.specs.Making.{Grows, grown}
@@ -35,7 +38,7 @@ use Rattle.seq_turns.specs.Seen.{rested}
 use Rattle.seq_turns.proofs.Taking.{some_cursor}
 use Rattle.stage_rows.specs.Table.{kept, replaced, make_pull, pull_round, pulled, last_outputs, after_pull, pull_term}
 use Rattle.xf_stages.specs.Left.{stages_in, states_in}
-use Rattle.xf_stages.specs.Opening.{Opens, AreFresh, AddsStates, seen_kept, all_keep, kept_in}
+use Rattle.xf_stages.specs.Opening.{Opens, AreFresh, AddsStates, seen_kept, all_kept, kept_in}
 use Rattle.xf_stages.specs.declared.state.Opened.TheVariants as D
 use Rattle.xf_stages.specs.declared.state.Stages.{Stages}
 use Rattle.pull_rules.specs.Kept.{IsThrough}
@@ -88,10 +91,10 @@ pull_too_long xf c both s next r q e h = pull_grown xf c both s next G.TooMany r
 pub pull_makes : (xf c : Value) (both : List Value) (s : Stages) (next : AtPart) (all : Gathered) (r : Next State) → both ≡ xf ∷ c ∷ [] → Grows (with_members (plains both ++ kept (states_in s))) (G.All all) → Takes (make Lazy (record { op = O.Pull; args = plains all.items.items }) (λ m. left_part next m)) r → Takes (make_pull (plain xf) (states_in s) (plain c) (λ m. left_part next m)) r
 pull_makes xf c both s next all r q e h = pull_grown xf c both s next (G.All all) r q e h
 
-pub pull_takes : (xf c : Value) (both all : List Value) (s : Stages) → both ≡ xf ∷ c ∷ [] → AddsStates (kept_in s) both all → IsThrough xf (stages_in s) → IsTrue (takes O.Pull (map sight_of all))
+pub pull_takes : (xf c : Value) (both all : List Value) (s : Stages) → both ≡ xf ∷ c ∷ [] → AddsStates (kept_in s) both all → IsThrough (plain xf) (stages_in s) → takes O.Pull (sights (M.values (plains all))) ≡ true
 pull_takes xf c both all s q a t =
-    ap (λ l. takes O.Pull (map sight_of l)) (a.all ∙ ap (λ l. l ++ a.states) q)
-    ∙ pull_by (sight_of xf) (sight_of c) (kept_in s) (map sight_of a.states) t ∙ a.fit
+    ap (λ l. takes O.Pull (sights (M.values (plains l)))) (a.all ∙ ap (λ l. l ++ a.states) q)
+    ∙ pull_by (sight (plain xf)) (sight (plain c)) (kept_in s) (sights (M.values (plains a.states))) t ∙ a.fit
 
 pub two_gathered : (none one both : List Value) (x y : Value) → none ≡ [] → one ≡ none ++ x ∷ [] → both ≡ one ++ y ∷ [] → both ≡ x ∷ y ∷ []
 two_gathered none one both x y e q p = p ∙ ap (λ l. l ++ y ∷ []) (q ∙ ap (λ l. l ++ x ∷ []) e)
@@ -102,17 +105,27 @@ one_gathered none one x e q = let l : length one ≡ 1 = ap length (q ∙ ap (λ
 pub term_makes : (xs ys : List Value) (t : Term) (next : AtPart) (r : Next State) → ys ≡ xs → plain_term t ≡ record { op = O.Pull; args = plains ys } → Takes (make Lazy (plain_term t) (λ m. left_part next m)) r → Takes (make Lazy (record { op = O.Pull; args = plains xs }) (λ m. left_part next m)) r
 term_makes xs ys t next r e q h = takes_same (ap (λ x. make Lazy x (λ m. left_part next m)) (q ∙ ap (λ l. record { op = O.Pull; args = plains l }) e)) h
 
-pub term_fits : (xs ys : List Value) → ys ≡ xs → IsTrue (takes O.Pull (map sight_of xs)) → IsTrue (takes O.Pull (map sight_of ys))
-term_fits xs ys e h = ap (λ l. takes O.Pull (map sight_of l)) e ∙ h
+pub term_fits : (xs ys : List Value) → ys ≡ xs → takes O.Pull (sights (M.values (plains xs))) ≡ true → takes O.Pull (sights (M.values (plains ys))) ≡ true
+term_fits xs ys e h = ap (λ l. takes O.Pull (sights (M.values (plains l)))) e ∙ h
+
+all_well : (xs : List Value) → IsTrue (are_well_formed xs) → WellList (plains xs)
+all_well [] h = well_end
+all_well (x ∷ xs) h = let parts = and_parts (is_well_formed x) (are_well_formed xs) h in well_item (well_formed x parts.0) (all_well xs parts.1)
+
+pub term_formed_by : (t : Term) → t.op ≡ O.Pull → IsTrue (are_well_formed t.args) → takes O.Pull (sights (M.values (plains t.args))) ≡ true → IsTrue (is_well_formed_term t)
+term_formed_by t e w h = formed_term t (list_keeps t.args w) (well_term (all_well t.args w) (ap (λ o. takes o (sights (M.values (plains t.args)))) e ∙ h))
 
 -- ## The work of a part begins
 
-pub work_takes : (t : Term) → t.op ≡ O.Pull → IsTrue (is_well_formed_term t) → IsTrue (takes O.Pull (map sight_of t.args))
-work_takes t e h = ap (λ o. takes o (map sight_of t.args)) (sym e) ∙ term_takes t h
+by_well : {t : M.Term ℕ} → WellTerm t → takes t.op (sights (M.values t.args)) ≡ true
+by_well (well_term w e) = e
 
-pub two_arguments : (xs : List Value) → IsTrue (takes O.Pull (map sight_of xs)) → 2 ≤ length xs
+pub work_takes : (t : Term) → t.op ≡ O.Pull → IsTrue (is_well_formed_term t) → takes O.Pull (sights (M.values (plains t.args))) ≡ true
+work_takes t e h = ap (λ o. takes o (sights (M.values (plains t.args)))) (sym e) ∙ by_well (term_formed t h)
+
+pub two_arguments : (xs : List Value) → takes O.Pull (sights (M.values (plains xs))) ≡ true → 2 ≤ length xs
 two_arguments [] h = absurd cc
-two_arguments (x ∷ []) h = absurd (one_short (sight_of x) h)
+two_arguments (x ∷ []) h = absurd (one_short (sight (plain x)) h)
   where
     one_short : (s : Sight) → is_pull (s ∷ []) ≡ true → ⊥
     one_short (a_function t (Some k)) e = absurd cc
@@ -147,10 +160,10 @@ pull_opened size xs xf c st r q e n h =
     ∙ sym (e.goes (λ stages. seq (plain c) (λ s. pull_at size (plain xf) stages (replaced (fresh stages) (plains (drop 2 xs))) [] s)))
     ∙ ap (λ l. pull_term size (plains l)) (sym q)) h
 
-pub kept_fit : (xs : List Value) (xf c : Value) (st : Stages) → xs ≡ xf ∷ c ∷ drop 2 xs → IsThrough xf (stages_in st) → IsTrue (takes O.Pull (map sight_of xs)) → IsTrue (are_states (kept_in st) (map sight_of (drop 2 xs)))
-kept_fit xs xf c st q t h = sym (pull_by (sight_of xf) (sight_of c) (kept_in st) (map sight_of (drop 2 xs)) t) ∙ ap (λ l. takes O.Pull (map sight_of l)) (sym q) ∙ h
+pub kept_fit : (xs : List Value) (xf c : Value) (st : Stages) → xs ≡ xf ∷ c ∷ drop 2 xs → IsThrough (plain xf) (stages_in st) → takes O.Pull (sights (M.values (plains xs))) ≡ true → are_states (kept_in st) (sights (M.values (plains (drop 2 xs)))) ≡ true
+kept_fit xs xf c st q t h = sym (pull_by (sight (plain xf)) (sight (plain c)) (kept_in st) (sights (M.values (plains (drop 2 xs)))) t) ∙ ap (λ l. takes O.Pull (sights (M.values (plains l)))) (sym q) ∙ h
 
-pub still_through : (xf : Value) (before after : List (M.Value ℕ)) → IsThrough xf before → after ≡ before → IsThrough xf after
+pub still_through : (xf : M.Value ℕ) (before after : List (M.Value ℕ)) → IsThrough xf before → after ≡ before → IsThrough xf after
 still_through xf before after t e = subst (IsThrough xf) (sym e) t
 
 pub starts_same : (p : Pulling) (c : M.Value ℕ) (stages states : List (M.Value ℕ)) (r : Next State) → stages_in p.stages ≡ stages → states_in p.stages ≡ states → p.outputs.items.items ≡ [] → Takes (seq c (λ s. left_seq (Q.Pull p) s)) r → Takes (seq c (λ s. pull_at p.pull.enough (plain p.pull.transducer.value) stages states [] s)) r
@@ -204,7 +217,7 @@ on_stages stages errand (GT.Rest s o) h k = λ i. k (h.rests i) (states_in s) (g
 gather_goes : (stages : List (M.Value ℕ)) (errand : Errand) (t : GatheringTurn) (k : List (M.Value ℕ) → Onward ℕ) (r : Next State) → Gathers stages errand t → Takes (gathering_node t (k (gathering_stages t))) r → Takes (errand (k stages)) r
 gather_goes stages errand t k r h g = takes_from (silent_stages (h.goes (k stages))) (takes_same (on_stages stages errand t h k) g)
 
-turn_through : (xf : Value) (stages : List (M.Value ℕ)) (errand : Errand) (t : GatheringTurn) → Gathers stages errand t → IsThrough xf stages → TurnThrough xf t
+turn_through : (xf : M.Value ℕ) (stages : List (M.Value ℕ)) (errand : Errand) (t : GatheringTurn) → Gathers stages errand t → IsThrough xf stages → TurnThrough xf t
 turn_through xf stages errand (GT.Asks n) h e = subst (IsThrough xf) (sym h.rests) e
 turn_through xf stages errand (GT.Throw why) h e = tt
 turn_through xf stages errand (GT.Rest s o) h e = subst (IsThrough xf) (sym h.rests) e
@@ -214,11 +227,11 @@ step_goes p c first rest t r e q g h =
     takes_same (λ i. enter (stages_in p.stages) (states_in p.stages) (gathers (plains p.outputs.items.items)) (e i) (pull_on p.pull.enough (plain p.pull.transducer.value) (stages_in p.stages) (q i)))
     (gather_goes (stages_in p.stages) (λ k. enter (stages_in p.stages) (states_in p.stages) (gathers (plains p.outputs.items.items)) first k) t (λ stages. pull_on p.pull.enough (plain p.pull.transducer.value) stages rest) r g h)
 
-pub step_through : (p : Pulling) (first : M.Value ℕ) (t : GatheringTurn) → Gathers (stages_in p.stages) (λ k. enter (stages_in p.stages) (states_in p.stages) (gathers (plains p.outputs.items.items)) first k) t → TurnThrough p.pull.transducer.value t
-step_through p first t g = turn_through p.pull.transducer.value (stages_in p.stages) _ t g p.through
+pub step_through : (p : Pulling) (first : M.Value ℕ) (t : GatheringTurn) → Gathers (stages_in p.stages) (λ k. enter (stages_in p.stages) (states_in p.stages) (gathers (plains p.outputs.items.items)) first k) t → TurnThrough (plain p.pull.transducer.value) t
+step_through p first t g = turn_through (plain p.pull.transducer.value) (stages_in p.stages) _ t g p.through
 
-pub midway_through : (m : Midway) (errand : Errand) (t : GatheringTurn) → Gathers (waiting_stages m.gathering.waiting) errand t → TurnThrough m.pull.transducer.value t
-midway_through m errand t g = turn_through m.pull.transducer.value (waiting_stages m.gathering.waiting) errand t g m.through
+pub midway_through : (m : Midway) (errand : Errand) (t : GatheringTurn) → Gathers (waiting_stages m.gathering.waiting) errand t → TurnThrough (plain m.pull.transducer.value) t
+midway_through m errand t g = turn_through (plain m.pull.transducer.value) (waiting_stages m.gathering.waiting) errand t g m.through
 
 pub midway_goes : (m : Midway) (errand : Errand) (t : GatheringTurn) (r : Next State) → Gathers (waiting_stages m.gathering.waiting) errand t → Takes (gathering_node t (pull_on m.pull.enough (plain m.pull.transducer.value) (gathering_stages t) (rested m.rest))) r → Takes (errand (pull_on m.pull.enough (plain m.pull.transducer.value) (waiting_stages m.gathering.waiting) (rested m.rest))) r
 midway_goes m errand t r g h = gather_goes (waiting_stages m.gathering.waiting) errand t (λ stages. pull_on m.pull.enough (plain m.pull.transducer.value) stages (rested m.rest)) r g h
@@ -229,10 +242,10 @@ midway_waits n p rest m e q o h =
     (record { goes = arrives; step = h.step; waits = ap (λ g. waiting_for g.waiting) e ∙ h.waits; well = h.well })
 
 -- by what the turn is
-pub asked_through : (xf : Value) (t : GatheringTurn) (n : Next Gathering) → t ≡ GT.Asks n → TurnThrough xf t → IsThrough xf (waiting_stages n.state.waiting)
+pub asked_through : (xf : M.Value ℕ) (t : GatheringTurn) (n : Next Gathering) → t ≡ GT.Asks n → TurnThrough xf t → IsThrough xf (waiting_stages n.state.waiting)
 asked_through xf t n e h = subst (TurnThrough xf) e h
 
-pub rest_through : (xf : Value) (t : GatheringTurn) (s : Stages) (o : Outputs) → t ≡ GT.Rest s o → TurnThrough xf t → IsThrough xf (stages_in s)
+pub rest_through : (xf : M.Value ℕ) (t : GatheringTurn) (s : Stages) (o : Outputs) → t ≡ GT.Rest s o → TurnThrough xf t → IsThrough xf (stages_in s)
 rest_through xf t s o e h = subst (TurnThrough xf) e h
 
 pub asks_of : (t : GatheringTurn) (n : Next Gathering) → t ≡ GT.Asks n → IsGatheringAsked t → IsAsked (waiting_for n.state.waiting) n.turn
@@ -263,3 +276,8 @@ end_waits n h = record { goes = arrives; step = h.step; waits = h.waits; well = 
 
 pub end_goes : (stages : List (M.Value ℕ)) (errand : Errand) (t : GatheringTurn) (r : Next State) → Gathers stages errand t → Takes (gathering_node t pull_over) r → Takes (errand pull_over) r
 end_goes stages errand t r h g = takes_from (silent_stages (h.goes pull_over)) g
+
+-- ## Outputs enough
+
+pub stops_same : (xf : M.Value ℕ) (states : List (M.Value ℕ)) (o : Outputs) (c rest : M.Value ℕ) (r : Next State) → c ≡ rest → Takes (make_pull xf states c (λ m. left_part (P.Pulled o) m)) r → Takes (pull_stops xf states (plains o.items.items) rest) r
+stops_same xf states o c rest r e h = takes_same (λ i. make_pull xf states (e i) (λ m. left_part (P.Pulled o) m)) h

@@ -39,10 +39,11 @@ module _ (stages : List (M.Value ℕ)) (course : Course) (f a : Proper) where
   pub runs_output : (w : AtOut) (x called : Proper) (args : ProperList) → called.value ≡ f.value → plains args.items ≡ plain a.value ∷ plain x.value ∷ [] → Flows stages course (F.Out w x) → Reaches (RT.Asks (record { state = R.Output (record { waiting = w; function = f }); turn = T.Apply called.value args.items }))
   runs_output w x called args e q h =
       record {
-      goes = λ k. subst (λ p. StageSilent (course (reduces (plain f.value) (plain a.value)) k) p) (λ i. call (plain (sym e i)) (sym q i) (λ y. left_out w (is_reduced y) (reduces (plain f.value) (unwrapped y)) k)) (h.goes (reduces (plain f.value) (plain a.value)) k);
-      asked = record { step = tt; waits = refl; well = both _ _ called.well args.well };
-      rests = h.rests;
-      keeps = refl }
+        goes = λ k. subst (λ p. StageSilent (course (reduces (plain f.value) (plain a.value)) k) p) (λ i. call (plain (sym e i)) (sym q i) (λ y. left_out w (is_reduced y) (reduces (plain f.value) (unwrapped y)) k)) (h.goes (reduces (plain f.value) (plain a.value)) k);
+        asked = record { step = tt; waits = refl; well = both _ _ called.well args.well };
+        rests = h.rests;
+        keeps = refl;
+      }
 
 pub told_output : (w : AtOut) (f : Proper) (y : Value) (v : M.Value ℕ) (ended : Bool) (r : ReductionTurn) → v ≡ unwrapped (plain y) → ended ≡ is_reduced (plain y) → Runs (at_rest w.flow) (plain f.value) (λ k. left_out w ended (reduces (plain f.value) v) k) r → Runs (at_rest w.flow) (plain f.value) (λ k. left_out w (is_reduced (plain y)) (reduces (plain f.value) (unwrapped (plain y))) k) r
 told_output w f y v ended r e q h = subst (λ p. p) (λ i. Runs (at_rest w.flow) (plain f.value) (λ k. left_out w (q i) (reduces (plain f.value) (e i)) k) r) h

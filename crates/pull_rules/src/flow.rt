@@ -33,7 +33,7 @@ pub(crate) enum Flowed {
 
 /// Stages whose outputs a function is called with, and the answer so far.
 #[derive(Drop)]
-pub(crate) struct Reducing {
+pub struct Reducing {
     pub(crate) waiting: Waiting,
     pub(crate) function: Proper,
     pub(crate) answer: Proper,
@@ -41,7 +41,7 @@ pub(crate) struct Reducing {
 
 /// Stages that wait for the function's answer to an output.
 #[derive(Drop)]
-pub(crate) struct Answering {
+pub struct Answering {
     pub(crate) waiting: AtOut,
     pub(crate) function: Proper,
 }

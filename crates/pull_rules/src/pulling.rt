@@ -1,5 +1,5 @@
 //! `sequence` and the work of its parts, which pull from a collection.
-ghost use Rattle.std.specs.Prelude.{◌≡◌, ◌≤◌, [], ◌∷◌, drop, length, map, true, IfOk, IsTrue};
+ghost use Rattle.std.specs.Prelude.{◌≡◌, [], ◌∷◌, drop, true, IfOk};
 ghost use Rattle.pull_rules.specs.Kept.{IsThrough};
 ghost use Rattle.pull_rules.specs.Left.{left_part, left_seq, left_step, pull_at, pull_ends, pull_on, pull_over, pull_stops, Takes};
 ghost use Rattle.pull_rules.specs.Reducing.{gathering_node, gathering_stages, IsGatheringAsked, IsAsked, waiting_for, waiting_stages};
@@ -10,28 +10,30 @@ ghost use Rattle.pull_rules.specs.declared.state.AtStep.TheVariants as T;
 ghost use Rattle.seq_base.specs.declared.thrown.Thrown.TheVariants.{Overflow};
 ghost use Rattle.seq_plan.specs.Plan.{give, make, seq, throw};
 ghost use Rattle.seq_plan.specs.Stages.{fresh, gathers, with_stages};
+ghost use Rattle.seq_plan.specs.WellFormed.{sights};
 ghost use Rattle.seq_turns.specs.Seen.{rested, seen};
 ghost use Rattle.seq_values.specs.Model as M;
-ghost use Rattle.seq_values.specs.Plain.{plain, plains};
-ghost use Rattle.seq_values.specs.WellFormed.{sight_of};
+ghost use Rattle.seq_values.specs.Plain.{plain, plains, plain_term};
 ghost use Rattle.seq_values.specs.WellFormedTerms.{takes};
 ghost use Rattle.seq_values.specs.declared.words.Kind.TheVariants as K;
 ghost use Rattle.seq_values.specs.declared.words.Op.TheVariants as O;
-ghost use Rattle.stage_rows.specs.Table.{last_outputs, make_pull, pull_term, replaced};
+ghost use Rattle.stage_rows.specs.Table.{last_outputs, make_pull, pull_term as pull_row, replaced};
 ghost use Rattle.xf_stages.specs.Left.{stages_in, states_in};
 ghost use Rattle.xf_stages.specs.Opening.{AreFresh};
 
 use crate::ending::gives_last;
 use crate::flow::{Gathering, GatheringTurn, Outputs};
-use crate::state::{AtPart, AtSeq, AtStages, AtStep, Midway, ProperTerm, Pull, Pulling, State, Work};
+use crate::state::{
+    AtPart, AtSeq, AtStages, AtStep, Midway, ProperTerm, Pull, Pulling, State, Work,
+};
 use crate::ways::{let_go, makes, seeks, throws, visits};
 use seq_base::Thrown;
 use seq_plan::Cursor;
 use seq_turns::{
     Gathered, Grown, Next, Proper, ProperList, Rest, Seen, Sought, Split, rest_value, seek,
-    seek_rest, split_cursor, term_of,
+    seek_rest, split_cursor,
 };
-use seq_values::Op;
+use seq_values::{Op, Term};
 use seq_vector::NoMemory;
 use std::alloc::Global;
 use xf_stages::{Opened, Stages};
@@ -71,7 +73,7 @@ fn makes_pull(
     stages: Stages,
     source: Proper,
 ) -> Result<Next<State>, NoMemory>
-    requires { IsThrough transducer.value (stages_in stages) }
+    requires { IsThrough (plain transducer.value) (stages_in stages) }
     ensures { IfOk result (λ r. Takes (make_pull (plain transducer.value) (states_in stages) (plain source.value) (λ m. left_part next m)) r) }
 {
     let both = two_members(alloc, transducer, source)?;
@@ -105,18 +107,31 @@ fn not_made(next: AtPart) -> Next<State>
 
 #[tactic(auto, using(crate::proofs::PullTurns::term_makes, crate::proofs::PullTurns::term_fits))]
 fn makes_term(alloc: Global, next: AtPart, all: Gathered) -> Result<Next<State>, NoMemory>
-    requires { IsTrue (takes O.Pull (map sight_of all.items.items)) }
+    requires { takes O.Pull (sights (M.values (plains all.items.items))) ≡ true }
     ensures { IfOk result (λ r. Takes (make K.Lazy (record { op = O.Pull; args = plains all.items.items }) (λ m. left_part next m)) r) }
 {
     let args = all.listed(alloc)?;
-    let term = term_of(Op::Pull, args);
-    Ok(makes(next, ProperTerm { term }))
+    Ok(makes(next, pull_term(args)))
+}
+
+/// The term of a pull.
+#[tactic(auto, using(crate::proofs::PullTurns::term_formed_by))]
+fn pull_term(args: ProperList) -> ProperTerm
+    requires { takes O.Pull (sights (M.values (plains args.items))) ≡ true }
+    ensures { plain_term result.term ≡ record { op = O.Pull; args = plains args.items } }
+{
+    ProperTerm {
+        term: Term {
+            op: Op::Pull,
+            args: args.items,
+        },
+    }
 }
 
 /// The work of a part begins.
 #[tactic(auto, using(seq_values::proofs::WellFormedLemmas::term_args, crate::proofs::PullTurns::work_takes))]
 pub(crate) fn work_begins(alloc: Global, work: Work) -> Result<Next<State>, NoMemory>
-    ensures { IfOk result (λ r. Takes (pull_term work.enough (plains work.term.args)) r) }
+    ensures { IfOk result (λ r. Takes (pull_row work.enough (plains work.term.args)) r) }
 {
     let Work { term, enough } = work;
     let args = ProperList { items: term.args };
@@ -134,8 +149,8 @@ fn without(next: Next<State>, args: ProperList) -> Next<State>
 /// The transducer and the collection are looked at.
 #[tactic(auto, using(crate::proofs::PullTurns::two_arguments, crate::proofs::PullTurns::first_arguments, crate::proofs::PullTurns::pull_thrown, crate::proofs::PullTurns::pull_opened))]
 fn pull_begins(alloc: Global, args: &ProperList, enough: u32) -> Result<Next<State>, NoMemory>
-    requires { IsTrue (takes O.Pull (map sight_of args.now.items)) }
-    ensures { IfOk result (λ r. Takes (pull_term enough (plains args.now.items)) r) }
+    requires { takes O.Pull (sights (M.values (plains args.now.items))) ≡ true }
+    ensures { IfOk result (λ r. Takes (pull_row enough (plains args.now.items)) r) }
 {
     let transducer = args.at(0)?;
     let source = args.at(1)?;
@@ -159,9 +174,9 @@ fn pull_opens(
     stages: Stages,
     source: Proper,
 ) -> Result<Next<State>, NoMemory>
-    requires fit { IsTrue (takes O.Pull (map sight_of args.now.items)) }
+    requires fit { takes O.Pull (sights (M.values (plains args.now.items))) ≡ true }
     requires args { args.now.items ≡ pull.transducer.value ∷ source.value ∷ drop 2 args.now.items }
-    requires through { IsThrough pull.transducer.value (stages_in stages) }
+    requires through { IsThrough (plain pull.transducer.value) (stages_in stages) }
     ensures { IfOk result (λ r. Takes (seq (plain source.value) (pull_at pull.enough (plain pull.transducer.value) (stages_in stages) (replaced (states_in stages) (plains (drop 2 args.now.items))) [])) r) }
 {
     let stages = stages.with_states(args, 2)?;
@@ -212,7 +227,8 @@ pub(crate) fn pull_step(
 ) -> Result<Next<State>, NoMemory>
     ensures { IfOk result (λ r. Takes (left_step (T.Pull pulling place)) r) }
 {
-    let Split { first, rest } = split_cursor(place)?;
+    let split = split_cursor(place)?;
+    let Split { first, rest } = split;
     let Pulling {
         pull,
         stages,
@@ -232,7 +248,7 @@ pub(crate) fn pull_goes(
     rest: Rest,
 ) -> Result<Next<State>, NoMemory>
     requires asked { IsGatheringAsked turn }
-    requires through { TurnThrough pull.transducer.value turn }
+    requires through { TurnThrough (plain pull.transducer.value) turn }
     ensures { IfOk result (λ r. Takes (gathering_node turn (pull_on pull.enough (plain pull.transducer.value) (gathering_stages turn) (rested rest))) r) }
 {
     match turn {
@@ -262,7 +278,7 @@ fn stopped(why: Thrown, pull: Pull, rest: Rest) -> Next<State>
 #[tactic(auto, using(crate::proofs::PullTurns::midway_waits))]
 fn asks_midway(next: Next<Gathering>, pull: Pull, rest: Rest) -> Next<State>
     requires asked { IsAsked (waiting_for next.state.waiting) next.turn }
-    requires through { IsThrough pull.transducer.value (waiting_stages next.state.waiting) }
+    requires through { IsThrough (plain pull.transducer.value) (waiting_stages next.state.waiting) }
     ensures { Takes (gathering_node (GT.Asks next) (pull_on pull.enough (plain pull.transducer.value) (waiting_stages next.state.waiting) (rested rest))) result }
 {
     let Next {

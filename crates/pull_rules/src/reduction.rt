@@ -12,7 +12,7 @@ ghost use Rattle.seq_values.specs.declared.term.Turn.TheVariants as T;
 ghost use Rattle.xf_stages.specs.Left.{Course, stages_in, states_in, at_rest, left_out};
 
 use crate::flow::{Answering, Flowed, Reducing, Reduction, ReductionTurn, Waiting};
-use crate::unwrapping::{Unwrapped, unwrapped};
+use crate::unwrapping::{Unwrapped, unwrap_answer};
 use crate::waiting::flowed;
 use seq_base::Thrown;
 use seq_turns::{Next, Proper, ProperList};
@@ -84,11 +84,7 @@ impl Reduction {
 }
 
 /// The stages are told what they wait for.
-fn within_told(
-    alloc: Global,
-    reducing: Reducing,
-    answer: Answer,
-) -> Result<ReductionTurn, NoMemory>
+fn within_told(alloc: Global, reducing: Reducing, answer: Answer) -> Result<ReductionTurn, NoMemory>
     requires { Fits (reduction_waits (R.Within reducing)) answer }
     ensures { IfOk result (Runs (reduction_stages (R.Within reducing)) (reduction_function (R.Within reducing)) (left_reduction (R.Within reducing) (told answer))) }
 {
@@ -104,16 +100,13 @@ fn within_told(
 
 /// The function answered an output.
 #[tactic(auto, using(crate::proofs::Reductions::told_output))]
-fn output_told(
-    alloc: Global,
-    answering: Answering,
-    value: Value,
-) -> Result<ReductionTurn, NoMemory>
+fn output_told(alloc: Global, answering: Answering, value: Value) -> Result<ReductionTurn, NoMemory>
     requires { Fits a_value (Answer.Got value) }
     ensures { IfOk result (Runs (at_rest answering.waiting.flow) (plain answering.function.value) (λ k. left_out answering.waiting (is_reduced (plain value)) (reduces (plain answering.function.value) (unwrapped (plain value))) k)) }
 {
     let Answering { waiting, function } = answering;
-    let Unwrapped { value, ended } = unwrapped(value)?;
+    let answer = unwrap_answer(value)?;
+    let Unwrapped { value, ended } = answer;
     let turn = waiting.passed(alloc, ended)?;
     let next = settled(alloc, flowed(turn), function, value)?;
     Ok(next)
@@ -182,12 +175,7 @@ fn output(
     Ok(output_call(waiting, function, called, args))
 }
 
-fn output_call(
-    waiting: AtOut,
-    function: Proper,
-    called: Proper,
-    args: ProperList,
-) -> ReductionTurn
+fn output_call(waiting: AtOut, function: Proper, called: Proper, args: ProperList) -> ReductionTurn
     ensures { result ≡ ReductionTurn.Asks (record { state = R.Output (record { waiting = waiting; function = function }); turn = T.Apply called.value args.items }) }
 {
     ReductionTurn::Asks(Next {

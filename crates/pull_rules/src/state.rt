@@ -3,6 +3,7 @@ ghost use Rattle.std.specs.Prelude.{◌≡◌, IsTrue};
 ghost use Rattle.pull_rules.specs.Kept.{IsThrough};
 ghost use Rattle.pull_rules.specs.Reducing.{waiting_stages};
 ghost use Rattle.pull_rules.specs.Words.{is_stage_word};
+ghost use Rattle.seq_values.specs.Plain.{plain};
 ghost use Rattle.seq_values.specs.WellFormed.{are_well_formed};
 ghost use Rattle.seq_values.specs.WellFormedTerms.{is_well_formed_term};
 ghost use Rattle.seq_values.specs.declared.words.Op.TheVariants as O;
@@ -53,7 +54,7 @@ pub(crate) struct Pulling {
     pub(crate) pull: Pull,
     pub(crate) stages: Stages,
     pub(crate) outputs: Outputs,
-    ghost through: { IsThrough pull.transducer.value (stages_in stages) },
+    ghost through: { IsThrough (plain pull.transducer.value) (stages_in stages) },
 }
 
 /// A pull in the midst of an element, and what comes after the element.
@@ -62,7 +63,7 @@ pub(crate) struct Midway {
     pub(crate) gathering: Gathering,
     pub(crate) pull: Pull,
     pub(crate) rest: Rest,
-    ghost through: { IsThrough pull.transducer.value (waiting_stages gathering.waiting) },
+    ghost through: { IsThrough (plain pull.transducer.value) (waiting_stages gathering.waiting) },
 }
 
 /// A rule that hasn't begun.

@@ -65,11 +65,7 @@ pub(crate) fn first_called(
 
 /// The function is called for the first answer.
 #[tactic(auto, using(crate::proofs::TransduceTurns::first_asked))]
-fn calls_first(
-    stages: Stages,
-    function: Proper,
-    source: Proper,
-) -> Result<Next<State>, NoMemory>
+fn calls_first(stages: Stages, function: Proper, source: Proper) -> Result<Next<State>, NoMemory>
     ensures { IfOk result (λ r. Takes (call (plain function.value) [] (λ y. left_value (V.First stages function source) y)) r) }
 {
     let called = function.share()?;
@@ -122,10 +118,7 @@ pub(crate) fn transduce_over(
 
 /// The reduction of the collection goes on, or is through.
 #[tactic(auto, using(crate::proofs::TransduceTurns::asks_over))]
-pub(crate) fn transduce_goes(
-    alloc: Global,
-    turn: ReductionTurn,
-) -> Result<Next<State>, NoMemory>
+pub(crate) fn transduce_goes(alloc: Global, turn: ReductionTurn) -> Result<Next<State>, NoMemory>
     requires { IsReductionAsked turn }
     ensures { IfOk result (λ r. Takes (reduction_node turn (transduced (turn_stages turn) (turn_function turn))) r) }
 {

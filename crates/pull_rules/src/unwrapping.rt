@@ -38,7 +38,7 @@ fn held(value: Held) -> Result<Unwrapped, NoMemory>
 
 /// The value in a reduced one, or a value that isn't reduced.
 #[tactic(auto, using(seq_values::proofs::WellFormedLemmas::reduced_in, seq_values::proofs::WellFormedLemmas::node_in))]
-pub(crate) fn unwrapped(answer: Value) -> Result<Unwrapped, NoMemory>
+pub(crate) fn unwrap_answer(answer: Value) -> Result<Unwrapped, NoMemory>
     requires { IsTrue (is_well_formed answer) }
     ensures value { IfOk result (λ u. plain u.value.value ≡ unwrapped (plain answer)) }
     ensures ended { IfOk result (λ u. u.ended ≡ is_reduced (plain answer)) }

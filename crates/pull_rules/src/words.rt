@@ -9,8 +9,8 @@ ghost use Rattle.seq_values.specs.declared.words.Builtin.TheVariants as B;
 ghost use Rattle.stage_rows.specs.Table.{stage_call};
 
 use crate::arguments::{Four, Three, four_of, three_of};
-use crate::state::{Call, State};
 use crate::pulling::sequenced;
+use crate::state::{Call, State};
 use crate::transducing::{first_called, transduce};
 use crate::ways::throws;
 use seq_base::Thrown;
@@ -78,11 +78,12 @@ fn transduce_without(alloc: Global, args: &ProperList) -> Result<Next<State>, No
     requires { length args.now.items ≡ 3 }
     ensures { IfOk result (λ r. Takes (stage_call B.Transduce (plains args.now.items)) r) }
 {
+    let all = three_of(args)?;
     let Three {
         first: xf,
         second: function,
         third: source,
-    } = three_of(args)?;
+    } = all;
     let next = first_called(alloc, xf, function, source)?;
     Ok(next)
 }
@@ -93,12 +94,13 @@ fn transduce_with(alloc: Global, args: &ProperList) -> Result<Next<State>, NoMem
     requires { length args.now.items ≡ 4 }
     ensures { IfOk result (λ r. Takes (stage_call B.Transduce (plains args.now.items)) r) }
 {
+    let all = four_of(args)?;
     let Four {
         first: xf,
         second: function,
         third: answer,
         fourth: source,
-    } = four_of(args)?;
+    } = all;
     let next = transduce(alloc, xf, function, answer, source)?;
     Ok(next)
 }
@@ -111,11 +113,12 @@ fn into_call(alloc: Global, args: &ProperList) -> Result<Next<State>, NoMemory>
     if args.len() != 3 {
         return Ok(throws(Thrown::Arity));
     }
+    let all = three_of(args)?;
     let Three {
         first: answer,
         second: xf,
         third: source,
-    } = three_of(args)?;
+    } = all;
     let conj = Proper {
         value: word_value(Builtin::Conj),
     };
