@@ -1,5 +1,5 @@
 //! `transduce`, and `into` with a transducer.
-ghost use Rattle.std.specs.Prelude.{◌≡◌, [], ◌∷◌, IfOk, Some};
+ghost use Rattle.std.specs.Prelude.{◌≡◌, [], ◌∷◌, true, IfOk};
 ghost use Rattle.pull_rules.specs.Left.{left_value, completed, transduced, Takes};
 ghost use Rattle.pull_rules.specs.Reducing.{reduction_node, turn_stages, turn_function, IsReductionAsked, IsAsked, reduction_waits};
 ghost use Rattle.pull_rules.specs.declared.state.AtValue.TheVariants as V;
