@@ -91,10 +91,10 @@ pull_too_long xf c both s next r q e h = pull_grown xf c both s next G.TooMany r
 pub pull_makes : (xf c : Value) (both : List Value) (s : Stages) (next : AtPart) (all : Gathered) (r : Next State) → both ≡ xf ∷ c ∷ [] → Grows (with_members (plains both ++ kept (states_in s))) (G.All all) → Takes (make Lazy (record { op = O.Pull; args = plains all.items.items }) (λ m. left_part next m)) r → Takes (make_pull (plain xf) (states_in s) (plain c) (λ m. left_part next m)) r
 pull_makes xf c both s next all r q e h = pull_grown xf c both s next (G.All all) r q e h
 
-pub pull_takes : (xf c : Value) (both all : List Value) (s : Stages) → both ≡ xf ∷ c ∷ [] → AddsStates (kept_in s) both all → IsThrough (plain xf) (stages_in s) → takes O.Pull (sights (M.values (plains all))) ≡ true
+pub pull_takes : (xf c : Value) (both all : List Value) (s : Stages) → both ≡ xf ∷ c ∷ [] → AddsStates (kept_in s) (plains both) (plains all) → IsThrough (plain xf) (stages_in s) → takes O.Pull (sights (M.values (plains all))) ≡ true
 pull_takes xf c both all s q a t =
-    ap (λ l. takes O.Pull (sights (M.values (plains l)))) (a.all ∙ ap (λ l. l ++ a.states) q)
-    ∙ pull_by (sight (plain xf)) (sight (plain c)) (kept_in s) (sights (M.values (plains a.states))) t ∙ a.fit
+    ap (λ l. takes O.Pull (sights (M.values l))) (a.all ∙ ap (λ l. plains l ++ a.states) q)
+    ∙ pull_by (sight (plain xf)) (sight (plain c)) (kept_in s) (sights (M.values a.states)) t ∙ a.fit
 
 pub two_gathered : (none one both : List Value) (x y : Value) → none ≡ [] → one ≡ none ++ x ∷ [] → both ≡ one ++ y ∷ [] → both ≡ x ∷ y ∷ []
 two_gathered none one both x y e q p = p ∙ ap (λ l. l ++ y ∷ []) (q ∙ ap (λ l. l ++ x ∷ []) e)
@@ -166,8 +166,8 @@ kept_fit xs xf c st q t h = sym (pull_by (sight (plain xf)) (sight (plain c)) (k
 pub still_through : (xf : M.Value ℕ) (before after : List (M.Value ℕ)) → IsThrough xf before → after ≡ before → IsThrough xf after
 still_through xf before after t e = subst (IsThrough xf) (sym e) t
 
-pub starts_same : (p : Pulling) (c : M.Value ℕ) (stages states : List (M.Value ℕ)) (r : Next State) → stages_in p.stages ≡ stages → states_in p.stages ≡ states → p.outputs.items.items ≡ [] → Takes (seq c (λ s. left_seq (Q.Pull p) s)) r → Takes (seq c (λ s. pull_at p.pull.enough (plain p.pull.transducer.value) stages states [] s)) r
-starts_same p c stages states r e q o h = takes_same (λ i. seq c (λ s. pull_at p.pull.enough (plain p.pull.transducer.value) (e i) (q i) (plains (o i)) s)) h
+pub starts_same : (size : ℕ) (xf c : M.Value ℕ) (stages stages' states states' : List (M.Value ℕ)) (outputs : List Value) (r : Next State) → stages' ≡ stages → states' ≡ states → outputs ≡ [] → Takes (seq c (λ s. pull_at size xf stages' states' (plains outputs) s)) r → Takes (seq c (λ s. pull_at size xf stages states [] s)) r
+starts_same size xf c stages stages' states states' outputs r e q o h = takes_same (λ i. seq c (λ s. pull_at size xf (e i) (q i) (plains (o i)) s)) h
 
 -- ## A round
 

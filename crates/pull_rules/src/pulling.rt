@@ -77,7 +77,7 @@ fn makes_pull(
     ensures { IfOk result (λ r. Takes (make_pull (plain transducer.value) (states_in stages) (plain source.value) (λ m. left_part next m)) r) }
 {
     let both = two_members(alloc, transducer, source)?;
-    let grown = stages.add_states(alloc, both)?;
+    let grown = stages.add_states(both)?;
     match grown {
         Grown::TooMany => Ok(not_made(next)),
         Grown::All(all) => {

@@ -117,7 +117,6 @@ pub(crate) fn transduce_over(
 }
 
 /// The reduction of the collection goes on, or is through.
-#[tactic(auto, using(crate::proofs::TransduceTurns::asks_over))]
 pub(crate) fn transduce_goes(alloc: Global, turn: ReductionTurn) -> Result<Next<State>, NoMemory>
     requires { IsReductionAsked turn }
     ensures { IfOk result (λ r. Takes (reduction_node turn (transduced (turn_stages turn) (turn_function turn))) r) }

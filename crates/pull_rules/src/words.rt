@@ -133,8 +133,8 @@ fn sequence_call(alloc: Global, args: &ProperList) -> Result<Next<State>, NoMemo
 {
     match args.pair()? {
         None => Ok(throws(Thrown::Arity)),
-        Some((xf, source)) => {
-            let next = sequenced(alloc, xf, source)?;
+        Some(both) => {
+            let next = sequenced(alloc, both.0, both.1)?;
             Ok(next)
         }
     }

@@ -18,4 +18,4 @@ pub returns-in-Rest : goal.returns-in-Rest
 returns-in-Rest t c = λ stages course h. gathers_rest stages course c.args.outputs c.in-Rest.stages (subst (λ f. Flows stages course f) c.in-Rest.is h)
 
 pub gathered-requires : goal.gathered-requires
-gathered-requires t c = fewer_out c.args.flow c.in-Out.waiting c.in-Out.item c.flowed.result c.in-Out.is (c.flowed.ensures _ _ c.in_ok-turn-in-Out.ensures)
+gathered-requires t c = (fewer_out c.args.flow c.in-Out.waiting c.in-Out.item c.flowed.result c.in-Out.is (c.flowed.ensures _ _ c.in_ok-turn-in-Out.ensures), tt)
