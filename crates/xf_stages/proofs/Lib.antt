@@ -1,0 +1,10 @@
+pub mod Leading
+pub mod Waits
+pub mod WalkTurns
+pub mod EffectTurns
+pub mod GroupTurns
+pub mod Kept
+pub mod PassTurns
+pub mod CompleteTurns
+pub mod RunTurns
+pub mod OpenTurns

@@ -1,0 +1,5 @@
+pub mod Left
+pub mod Opening
+pub mod Parts
+pub mod Reacting
+pub mod Flowing

@@ -1,0 +1,2 @@
+/// Lets a value go.
+pub(crate) fn let_go<T: Drop>(_value: T) {}
