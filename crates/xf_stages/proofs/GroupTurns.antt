@@ -41,7 +41,7 @@ one_as_full n xs k = λ i. with_members xs (λ ys. with_value (M.vector (M.value
 
 -- ## The group with one element more
 
-members_long : (items : List Value) (v : M.Value ℕ) → M.vector (M.values (plains items)) ≡ v → length (members v) ≡ length items
+pub members_long : (items : List Value) (v : M.Value ℕ) → M.vector (M.values (plains items)) ≡ v → length (members v) ≡ length items
 members_long items v e = ap (λ z. length (members z)) (sym e) ∙ ap length (list_values (plains items)) ∙ length-map items plain
 
 abbrev pub parts : ℤ → M.Value ℕ

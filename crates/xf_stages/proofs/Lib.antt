@@ -8,3 +8,6 @@ pub mod PassTurns
 pub mod CompleteTurns
 pub mod RunTurns
 pub mod OpenTurns
+pub mod StateTurns
+pub mod ReduceTurns
+pub mod RestoreTurns

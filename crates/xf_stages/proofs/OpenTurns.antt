@@ -83,7 +83,7 @@ extent_some (M.chunk xs r) = omega arith
 extent_some (M.range from at end) = omega arith
 extent_some (M.vec_seq xs at) = omega arith
 
-fresh_push : (ss : List Stage) (s : Stage) → state_value s ≡ begins_with (stage_value s) → FreshStages ss → FreshStages (ss ++ s ∷ [])
+pub fresh_push : (ss : List Stage) (s : Stage) → state_value s ≡ begins_with (stage_value s) → FreshStages ss → FreshStages (ss ++ s ∷ [])
 fresh_push ss s e h =
     map_push state_value ss s ∙ (λ i. h i ++ e i ∷ []) ∙ sym (map_push begins_with (stages_stand ss) (stage_value s)) ∙ ap fresh (sym (map_push stage_value ss s))
 

@@ -2,7 +2,6 @@
 use Rattle.std.specs.Prelude.{◌≡◌, ℕ, List, [], ◌∷◌, ◌++◌, ◌≤◌, ◌<◌, length, Option, Some, None, true}
 use Rattle.seq_base.specs.declared.thrown.Thrown.TheVariants.{Overflow}
 use Rattle.seq_values.specs.Model as M
-use Rattle.seq_values.specs.Plain.{plains}
 use Rattle.seq_values.specs.Sight.{Sight, a_function, Kept}
 use Rattle.seq_values.specs.WellFormedTerms.{are_states}
 use Rattle.seq_values.specs.declared.value.Value.{Value}
@@ -50,10 +49,10 @@ seen_kept (a_function target kept) = kept
 seen_kept _ = None
 
 -- values and then the states that the stages keep, as a part that pulls takes them
-pub record AddsStates (kept : List Kept) (before after : List Value) : Type 0 where
-  pub states : List Value
+pub record AddsStates (kept : List Kept) (before after : List (M.Value ℕ)) : Type 0 where
+  pub states : List (M.Value ℕ)
   pub all : after ≡ before ++ states
-  pub fit : are_states kept (sights (M.values (plains states))) ≡ true
+  pub fit : are_states kept (sights (M.values states)) ≡ true
 
 abbrev pub IfGrown : Grown → (List Value → Type 0) → Type 0
 IfGrown (G.All all) p = p all.items.items

@@ -4,9 +4,12 @@
 mod answering;
 mod completing;
 mod flowing;
+mod keeping;
 mod opening;
 mod passing;
 mod reacting;
+mod reducing;
+mod restoring;
 mod running;
 mod state;
 mod ways;

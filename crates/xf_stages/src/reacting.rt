@@ -256,7 +256,7 @@ fn no_items(node: Node) -> Items
 }
 
 /// The items of a vector.
-fn items_of(value: Value) -> Items
+pub(crate) fn items_of(value: Value) -> Items
     requires vector { is_vector (plain value) ≡ true }
     requires well { IsTrue (is_well_formed value) }
     ensures { M.vector (M.values (plains result.items)) ≡ plain value }

@@ -244,6 +244,27 @@ pub(crate) struct Popped {
     pub(crate) frame: Option<Frame>,
 }
 
+/// A reducer value taken apart: its outermost stage and its collection, or the collection at the bottom.
+#[derive(Drop)]
+pub(crate) enum Folded {
+    Reducer { stage: Stage, collection: Proper },
+    Bottom(Proper),
+}
+
+/// A stage that has its state again, and the place behind it in the list of states.
+#[derive(Drop)]
+pub(crate) struct Restored {
+    pub(crate) stage: Stage,
+    pub(crate) at: usize,
+}
+
+/// Stages without the last one, where there is one.
+#[derive(Drop)]
+pub(crate) struct Taken {
+    pub(crate) stages: Vec<Stage>,
+    pub(crate) stage: Option<Stage>,
+}
+
 /// The stages of a value, or why it has none.
 #[derive(Drop)]
 pub enum Opened {
