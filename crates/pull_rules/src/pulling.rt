@@ -179,7 +179,7 @@ fn pull_opens(
     requires through { IsThrough (plain pull.transducer.value) (stages_in stages) }
     ensures { IfOk result (λ r. Takes (seq (plain source.value) (pull_at pull.enough (plain pull.transducer.value) (stages_in stages) (replaced (states_in stages) (plains (drop 2 args.now.items))) [])) r) }
 {
-    let stages = stages.with_states(args, 2)?;
+    let stages = stages.with_states(alloc, args, 2)?;
     let outputs = Outputs::none(alloc);
     let pulling = Pulling {
         pull,
