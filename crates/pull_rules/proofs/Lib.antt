@@ -1,0 +1,10 @@
+pub mod Members
+pub mod ArgumentLists
+pub mod Flowing
+pub mod Reductions
+pub mod Gatherings
+pub mod Taking
+pub mod Ends
+pub mod TransduceTurns
+pub mod PullTurns
+pub mod WordTurns

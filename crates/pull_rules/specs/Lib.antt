@@ -1,0 +1,5 @@
+pub mod Words
+pub mod Kept
+pub mod Reducing
+pub mod Through
+pub mod Left
