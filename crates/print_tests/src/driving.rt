@@ -1,11 +1,11 @@
 //! Whoever runs the rule, for tests: it counts own steps, and answers what is asked of a part.
-ghost use Rattle.std.specs.Prelude.{IfOk, IfSome};
-ghost use Rattle.seq_turns.specs.Turning.{Fits, IsSeq, awaited};
+ghost use Rattle.std.specs.Prelude.{◌≡◌, IfOk, IfSome, IsErr};
+ghost use Rattle.print_rules.specs.Left.{wait_of};
+ghost use Rattle.seq_turns.specs.Turning.{a_seq, a_step, awaited, Fits};
 ghost use Rattle.seq_values.specs.Plain.{plain};
-ghost use Rattle.seq_values.specs.declared.term.Turn.TheVariants as T;
 
 use crate::building::{Step, build, full, seq_of};
-use print_rules::{begin, turn};
+use print_rules::{RuleState, begin, turn};
 use seq_turns::{Proper, part_of};
 use seq_values::{Answer, Turn, Value};
 use std::alloc::Global;
@@ -29,30 +29,33 @@ fn part_value(alloc: Global, number: u32) -> Result<Option<Proper>, Fail> {
     Ok(Some(value))
 }
 
-/// The `seq` of a part, and `None` for a part that throws.
-fn part_seq(alloc: Global, part: &Value) -> Result<Option<Proper>, Fail>
-    ensures { IfOk result (λ x. IfSome x (λ v. IsSeq (plain v.value))) }
-{
-    let Some(id) = part_of(part) else {
-        return Err(Fail::from("a seq of no part"));
-    };
-    match part_value(alloc, id.number())? {
-        None => Ok(None),
-        Some(value) => {
-            let seq = seq_of(alloc, value)?;
-            Ok(Some(seq))
-        }
+/// The number of the part that a value is, and 0, which no part has, where it is none.
+fn number_in(value: Value) -> u32 {
+    match part_of(&value) {
+        Some(id) => id.number(),
+        None => 0,
     }
 }
 
-/// The answer to a `seq` that is asked for, and `None` where that throws.
-fn answer_to(alloc: Global, value: &Value) -> Result<Option<Answer>, Fail>
-    ensures { IfOk result (λ x. IfSome x (λ a. Fits (awaited (T.Seq value.now)) a)) }
+/// How printing ends: with the text, or with `throws`.
+type End = Result<String, Fail>;
+
+/// The answer to a `seq` of a part, or the end where the part throws.
+fn answer_of(alloc: Global, number: u32) -> Result<Answer, End>
+    ensures { IfOk result (λ a. Fits a_seq a) }
 {
-    match part_seq(alloc, value)? {
-        None => Ok(None),
-        Some(seq) => Ok(Some(Answer::Got(seq.value))),
+    match part_value(alloc, number) {
+        Err(why) => Err(Err(why)),
+        Ok(None) => Err(thrown(alloc)),
+        Ok(Some(value)) => match seq_of(alloc, value) {
+            Ok(seq) => Ok(Answer::Got(seq.value)),
+            Err(why) => Err(Err(why)),
+        },
     }
+}
+
+fn thrown(alloc: Global) -> Result<String, Fail> {
+    Ok(String::from_str(alloc, "throws")?)
 }
 
 fn shown(alloc: Global, value: &Value) -> Result<String, Fail> {
@@ -67,26 +70,122 @@ fn shown(alloc: Global, value: &Value) -> Result<String, Fail> {
     Ok(out)
 }
 
+/// A rule, and the answer that it is told next.
+#[derive(Drop)]
+struct Going {
+    state: RuleState,
+    answer: Answer,
+    /// Whether it took an own step before.
+    stepped: bool,
+}
+
+#[tactic(auto, using(crate::proofs::Fitting::fits_visit))]
+fn after_step(state: RuleState) -> Going
+    requires { wait_of state.state ≡ a_step }
+    ensures { Fits (wait_of result.state.state) result.answer }
+{
+    Going {
+        state,
+        answer: Answer::Done,
+        stepped: true,
+    }
+}
+
+#[tactic(auto, using(crate::proofs::Fitting::fits_seq))]
+fn told(state: RuleState, answer: Answer) -> Going
+    requires waits { wait_of state.state ≡ a_seq }
+    requires fits { Fits a_seq answer }
+    ensures { Fits (wait_of result.state.state) result.answer }
+{
+    Going {
+        state,
+        answer,
+        stepped: false,
+    }
+}
+
+/// The rule is over.
+fn ended(_state: RuleState, end: End) -> Result<Going, End>
+    ensures { IsErr result }
+{
+    Err(end)
+}
+
+/// Goes on with the `seq` of a part, or ends where that throws.
+fn after_seq(state: RuleState, answer: Result<Answer, End>) -> Result<Going, End>
+    requires waits { wait_of state.state ≡ a_seq }
+    requires fits { IfOk answer (λ a. Fits a_seq a) }
+    ensures { IfOk result (λ g. Fits (wait_of g.state.state) g.answer) }
+{
+    match answer {
+        Ok(answer) => Ok(told(state, answer)),
+        Err(end) => ended(state, end),
+    }
+}
+
+/// A turn that printing never takes.
+fn strange(_state: RuleState, _taken: Turn) -> Result<Going, End>
+    ensures { IsErr result }
+{
+    Err(Err(Fail::from("no turn of printing")))
+}
+
+fn text_of(alloc: Global, value: Value) -> End {
+    shown(alloc, &value)
+}
+
+/// Goes on after a turn. Printing ends with the text, or with `throws`.
+fn after_turn(alloc: Global, state: RuleState, taken: Turn) -> Result<Going, End>
+    requires { wait_of state.state ≡ awaited taken }
+    ensures { IfOk result (λ g. Fits (wait_of g.state.state) g.answer) }
+{
+    match taken {
+        Turn::Visit => Ok(after_step(state)),
+        Turn::Seq(value) => after_seq(state, answer_of(alloc, number_in(value))),
+        Turn::Give(value) => ended(state, text_of(alloc, value)),
+        other => strange(state, other),
+    }
+}
+
+fn advance(alloc: Global, going: Going) -> Result<Going, End>
+    requires { Fits (wait_of going.state.state) going.answer }
+    ensures { IfOk result (λ g. Fits (wait_of g.state.state) g.answer) }
+{
+    match turn(alloc, going.state, going.answer) {
+        Ok((state, taken)) => after_turn(alloc, state, taken),
+        Err(why) => Err(Err(full(why))),
+    }
+}
+
+fn with_steps(end: End, steps: usize) -> Result<(String, usize), Fail> {
+    match end {
+        Ok(text) => Ok((text, steps)),
+        Err(why) => Err(why),
+    }
+}
+
+fn counted(steps: usize, stepped: bool) -> usize {
+    if stepped {
+        steps.wrapping_add(1)
+    } else {
+        steps
+    }
+}
+
 /// What printing came to: the text or `throws`, and how many own steps were taken.
 pub(crate) fn printed(alloc: Global, value: Proper) -> Result<(String, usize), Fail> {
-    let mut state = begin(value.value);
-    let mut answer = Answer::Begin;
+    let mut going = Going {
+        state: begin(value.value),
+        answer: Answer::Begin,
+        stepped: false,
+    };
     let mut steps = 0usize;
     for _ in 0..MOST_TURNS {
-        let (next, asked) = turn(alloc, state, answer).map_err(full)?;
-        state = next;
-        match asked {
-            Turn::Visit => {
-                steps = steps.wrapping_add(1);
-                answer = Answer::Done;
-            }
-            Turn::Seq(value) => match answer_to(alloc, &value)? {
-                Some(told) => answer = told,
-                None => return Ok((String::from_str(alloc, "throws")?, steps)),
-            },
-            Turn::Give(value) => return Ok((shown(alloc, &value)?, steps)),
-            _ => return Err(Fail::from("no turn of printing")),
+        match advance(alloc, going) {
+            Err(end) => return with_steps(end, steps),
+            Ok(next) => going = next,
         }
+        steps = counted(steps, going.stepped);
     }
     Err(Fail::from("no end"))
 }
