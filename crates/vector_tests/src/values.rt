@@ -9,7 +9,7 @@ use seq_values::{
     Builtin, CellId, FnValue, FolderKind, Held, Line, Node, Op, Target, Term, Text, Value, XfKind,
     print_atom,
 };
-use seq_vector::PVec;
+use seq_vector::{PVec, Share};
 use std::alloc::Global;
 use std::test::Fail;
 
@@ -24,76 +24,145 @@ fn alone(alloc: Global, item: Value) -> Result<Value, Fail> {
 }
 
 /// Whether a value is an atom with this text, or no atom and the text is empty.
-fn shows(alloc: Global, value: Value, text: &str) -> Result<bool, Fail> {
+fn is_shown(alloc: Global, value: &Value, text: &str) -> Result<bool, Fail> {
     let mut line = Line::new(alloc);
-    match print_atom(&value, &mut line) {
+    match print_atom(value, &mut line) {
         Ok(is_atom) => Ok(is_atom != text.is_empty() && line.bytes() == text.as_bytes()),
         Err(_) => Err(Fail::from("no memory")),
     }
 }
 
+/// The same, and gives the value up.
+fn shows(alloc: Global, value: Value, text: &str) -> Result<bool, Fail> {
+    let answer = is_shown(alloc, &value, text);
+    drop(value);
+    answer
+}
+
+/// The same value with one owner more, and gives the first owner up.
+fn passed<T: Share>(value: T) -> Result<T, Fail> {
+    let other = shared(&value);
+    drop(value);
+    other
+}
+
+/// Whether the value is the integer 1.
+fn is_one(value: &Value) -> bool {
+    matches!(value, Value::Int(1))
+}
+
+/// Whether the value is a vector of the integer 1 alone.
+fn is_one_alone(value: &Value) -> bool {
+    match value {
+        Value::Vector { items, .. } => {
+            items.len() == 1 && matches!(items.get(0), Some(Value::Int(1)))
+        }
+        _ => false,
+    }
+}
+
+/// Whether the value is the function `inc`.
+fn is_inc(value: &Value) -> bool {
+    match value {
+        Value::Function(function) => function.target == Target::Builtin(Builtin::Inc),
+        _ => false,
+    }
+}
+
 #[test]
-fn shares(rt: HostRuntime) -> Result<(), Fail> {
-    let alloc = rt.alloc();
-    let one = Held::of(alloc, Value::Int(1)).map_err(refused)?;
-    assert!(rt; matches!(one.get(), Value::Int(1)));
-    let a = text(alloc, b"a")?;
+fn shares_a_held_value(rt: HostRuntime) -> Result<(), Fail> {
+    let one = passed(Held::of(rt.alloc(), Value::Int(1)).map_err(refused)?)?;
+    assert!(rt; is_one(one.get()));
+    Ok(())
+}
+
+#[test]
+fn shares_a_text(rt: HostRuntime) -> Result<(), Fail> {
+    let a = passed(text(rt.alloc(), b"a")?)?;
     assert_eq!(rt; a.bytes(), b"a".as_slice());
-    assert_eq!(rt; shared(&a)?.bytes(), b"a".as_slice());
-    assert!(rt; matches!(shared(&Value::Int(1))?, Value::Int(1)));
-    assert!(rt; matches!(shared(&Node::Empty)?, Node::Empty));
-    let Value::Vector { items, .. } = shared(&alone(alloc, Value::Int(1))?)? else {
-        return Err(Fail::from("no vector"));
-    };
-    assert_eq!(rt; items.len(), 1);
-    assert!(rt; matches!(items.get(0), Some(Value::Int(1))));
+    Ok(())
+}
+
+#[test]
+fn shares_an_integer(rt: HostRuntime) -> Result<(), Fail> {
+    let one = passed(Value::Int(1))?;
+    let is_one = is_one(&one);
+    drop(one);
+    assert!(rt; is_one);
+    Ok(())
+}
+
+#[test]
+fn shares_a_vector(rt: HostRuntime) -> Result<(), Fail> {
+    let one = passed(alone(rt.alloc(), Value::Int(1))?)?;
+    let is_one = is_one_alone(&one);
+    drop(one);
+    assert!(rt; is_one);
+    Ok(())
+}
+
+#[test]
+fn shares_a_node(rt: HostRuntime) -> Result<(), Fail> {
+    let node = passed(Node::range(1, 1))?;
+    let is_empty = matches!(node, Node::Empty);
+    drop(node);
+    assert!(rt; is_empty);
+    Ok(())
+}
+
+#[test]
+fn shares_a_function(rt: HostRuntime) -> Result<(), Fail> {
+    let word = passed(Value::Function(FnValue::word(Builtin::Inc)))?;
+    let is_inc = is_inc(&word);
+    drop(word);
+    assert!(rt; is_inc);
+    Ok(())
+}
+
+#[test]
+fn shares_a_term(rt: HostRuntime) -> Result<(), Fail> {
+    let args = pushed(rt.alloc(), &PVec::new(), Value::Int(1))?;
+    let term = passed(Term {
+        op: Op::Repeat,
+        args,
+    })?;
+    let is_whole = term.op == Op::Repeat && term.args.len() == 1;
+    drop(term);
+    assert!(rt; is_whole);
     assert!(rt; CellId::of(0).is_none());
     Ok(())
 }
 
-#[test]
-fn shares_functions_and_terms(rt: HostRuntime) -> Result<(), Fail> {
-    let alloc = rt.alloc();
-    let word = Value::Function(FnValue::word(Builtin::Inc));
-    let Value::Function(function) = shared(&word)? else {
-        return Err(Fail::from("no function"));
-    };
-    assert_eq!(rt; function.target, Target::Builtin(Builtin::Inc));
-    let args = pushed(alloc, &PVec::new(), word)?;
-    let term = Term {
-        op: Op::Repeat,
-        args,
-    };
-    let other = shared(&term)?;
-    assert_eq!(rt; other.op, Op::Repeat);
-    assert_eq!(rt; other.args.len(), 1);
-    assert!(rt; matches!(Node::range(1, 1), Node::Empty));
-    Ok(())
+/// Whether atoms show their text.
+fn shows_atoms(alloc: Global) -> Result<bool, Fail> {
+    Ok(
+        shows(alloc, Value::Nil, "nil")?
+            && shows(alloc, Value::Bool(true), "true")?
+            && shows(alloc, Value::Bool(false), "false")?
+            && shows(alloc, Value::Int(-5), "-5")?
+            && shows(alloc, Value::Int(i64::MIN), "-9223372036854775808")?
+            && shows(alloc, Value::Function(FnValue::word(Builtin::Inc)), "#fn")?
+            && shows(alloc, Value::Node(Node::Empty), "")?,
+    )
+}
+
+/// Whether keywords and texts show theirs, and a vector none.
+fn shows_texts(alloc: Global) -> Result<bool, Fail> {
+    let escapes = text(alloc, b"a\n\t\r\x0c\x08\"\\z")?;
+    Ok(
+        shows(alloc, Value::Text(escapes), "\"a\\n\\t\\r\\f\\b\\\"\\\\z\"")?
+            && shows(alloc, Value::Keyword(text(alloc, b"k")?), ":k")?
+            && shows(alloc, alone(alloc, Value::Nil)?, "")?,
+    )
 }
 
 #[test]
 fn prints(rt: HostRuntime) -> Result<(), Fail> {
-    let alloc = rt.alloc();
-    let rows = [
-        (Value::Nil, "nil"),
-        (Value::Bool(true), "true"),
-        (Value::Bool(false), "false"),
-        (Value::Int(-5), "-5"),
-        (Value::Int(i64::MIN), "-9223372036854775808"),
-        (Value::Function(FnValue::word(Builtin::Inc)), "#fn"),
-        (Value::Node(Node::Empty), ""),
-        (Value::Keyword(text(alloc, b"k")?), ":k"),
-        (
-            Value::Text(text(alloc, b"a\n\t\r\x0c\x08\"\\z")?),
-            "\"a\\n\\t\\r\\f\\b\\\"\\\\z\"",
-        ),
-        (alone(alloc, Value::Nil)?, ""),
-    ];
-    for (value, shown) in rows {
-        assert!(rt; shows(alloc, value, shown)?, "{shown}");
-    }
+    assert!(rt; shows_atoms(rt.alloc())?);
+    assert!(rt; shows_texts(rt.alloc())?);
     Ok(())
 }
+
 /// Which nodes stand, by what is seen of their parts.
 fn nodes_that_stand()
     ensures range { (node_seen (Node-F.Range (pos 1) (pos 2) (pos 3))).stands ≡ true }

@@ -26,45 +26,91 @@ fn part(alloc: Global, items: &PVec<u32>, from: usize, count: usize) -> Result<P
     }
 }
 
+/// Whether the first item and the last are these, and no item is behind them.
+fn ends_in(items: &PVec<u32>, first: u32, last: u32, count: usize) -> bool {
+    items.len() == count
+        && items.get(0) == Some(&first)
+        && items.get(count.saturating_sub(1)) == Some(&last)
+        && items.get(count).is_none()
+}
+
+/// Whether a vector with one item more ends in it, while the earlier vector ends as before.
+fn pushes_behind(alloc: Global, items: &PVec<u32>, first: u32, last: u32) -> Result<bool, Fail> {
+    let count = items.len();
+    let longer = pushed(alloc, items, 7)?;
+    Ok(ends_in(&longer, first, 7, count.saturating_add(1)) && ends_in(items, first, last, count))
+}
+
 #[test]
-fn worked_rows(rt: HostRuntime) -> Result<(), Fail> {
-    let alloc = rt.alloc();
+fn pushes_to_33(rt: HostRuntime) -> Result<(), Fail> {
+    let few = counted(rt.alloc(), 33)?;
+    assert!(rt; pushes_behind(rt.alloc(), &few, 0, 32)?);
+    Ok(())
+}
+
+#[test]
+fn pushes_to_1056(rt: HostRuntime) -> Result<(), Fail> {
+    let whole = counted(rt.alloc(), 1056)?;
+    assert!(rt; pushes_behind(rt.alloc(), &whole, 0, 1055)?);
+    Ok(())
+}
+
+/// Whether the last 56 of 1056 items and one more are 57 items.
+fn pushes_to_window(alloc: Global, whole: &PVec<u32>) -> Result<bool, Fail> {
+    let end = part(alloc, whole, 1000, 56)?;
+    pushes_behind(alloc, &end, 1000, 1055)
+}
+
+#[test]
+fn pushes_to_a_window(rt: HostRuntime) -> Result<(), Fail> {
+    let whole = counted(rt.alloc(), 1056)?;
+    assert!(rt; pushes_to_window(rt.alloc(), &whole)?);
+    assert_eq!(rt; whole.len(), 1056);
+    Ok(())
+}
+
+/// 34 items, the last of them pushed.
+fn one_more_than_33(alloc: Global) -> Result<PVec<u32>, Fail> {
     let few = counted(alloc, 33)?;
-    let more = pushed(alloc, &few, 100)?;
-    assert_eq!(rt; more.len(), 34);
-    assert_eq!(rt; more.get(33), Some(&100));
-    assert_eq!(rt; more.get(34), None);
-    assert_eq!(rt; few.len(), 33);
+    pushed(alloc, &few, 100)
+}
+
+#[test]
+fn windows_end_with_the_vector(rt: HostRuntime) -> Result<(), Fail> {
+    let alloc = rt.alloc();
+    let more = one_more_than_33(alloc)?;
+    assert!(rt; more.window(alloc, 33, 2).map_err(full)?.is_none());
     assert_eq!(rt;
         part(alloc, &more, 32, 2)?.run_from(0),
         [32, 100].as_slice()
     );
-    assert!(rt; more.window(alloc, 33, 2).map_err(full)?.is_none());
-    assert_eq!(rt; PVec::<u32>::new().len(), 0);
-    let one = Shared::of(alloc, 7u32).map_err(|_| Fail::from("no memory"))?;
-    assert_eq!(rt; *one.get(), 7);
-    let whole = counted(alloc, 1056)?;
-    let longer = pushed(alloc, &whole, 7)?;
-    assert_eq!(rt; longer.get(1056), Some(&7));
-    assert_eq!(rt; whole.get(1056), None);
-    let end = pushed(alloc, &part(alloc, &whole, 1000, 56)?, 9)?;
-    assert_eq!(rt; end.len(), 57);
-    assert_eq!(rt; end.get(0), Some(&1000));
-    assert_eq!(rt; end.get(56), Some(&9));
-    assert_eq!(rt; whole.len(), 1056);
     Ok(())
+}
+
+#[test]
+fn empty_and_single(rt: HostRuntime) -> Result<(), Fail> {
+    assert_eq!(rt; PVec::<u32>::new().len(), 0);
+    let one = Shared::of(rt.alloc(), 7u32).map_err(|_| Fail::from("no memory"))?;
+    assert_eq!(rt; *one.get(), 7);
+    Ok(())
+}
+
+/// The vector with `count` items more, from `from` on, pushed one by one.
+fn grown_by(alloc: Global, mut all: PVec<u32>, from: u32, count: u32) -> Result<PVec<u32>, Fail> {
+    for at in 0..count {
+        all = pushed(alloc, &all, from.wrapping_add(at))?;
+    }
+    Ok(all)
 }
 
 /// One that copied the vector at each push would take 2 * 10^10 steps.
 #[test]
 fn grows_by_pushes(rt: HostRuntime) -> Result<(), Fail> {
-    let alloc = rt.alloc();
     let mut all = PVec::new();
-    for item in 0..200_000u32 {
-        all = pushed(alloc, &all, item)?;
-        if item % 1000 == 0 {
-            assert_eq!(rt; all.get(item as usize), Some(&item));
-        }
+    for thousand in 0..200u32 {
+        all = grown_by(rt.alloc(), all, thousand * 1000, 1000)?;
+        let last = thousand * 1000 + 999;
+        assert_eq!(rt; all.get(last as usize), Some(&last));
     }
     assert_eq!(rt; all.len(), 200_000);
     assert_eq!(rt; all.get(123_456), Some(&123_456));
