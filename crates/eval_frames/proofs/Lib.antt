@@ -1,0 +1,9 @@
+pub mod Moving
+pub mod Evals
+pub mod Shapes
+pub mod Pushing
+pub mod Going
+pub mod Splitting
+pub mod Callings
+pub mod Bodies
+pub mod Places
