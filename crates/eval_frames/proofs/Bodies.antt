@@ -31,4 +31,3 @@ pub in_functions : (fs : List (List (ℕ × Expr))) (i n : ℕ) (e : Expr) → b
 in_functions [] i n e p = absurd cc
 in_functions (f ∷ fs) zero n e p = let h = in_body f n e p in let k = le-max_left (heaviest_body f) (heaviest_function fs) in omega (arith, h, k)
 in_functions (f ∷ fs) (suc i) n e p = let h = in_functions fs i n e p in let k = le-max_right (heaviest_body f) (heaviest_function fs) in omega (arith, h, k)
-

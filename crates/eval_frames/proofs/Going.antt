@@ -41,3 +41,25 @@ module _ {S : Type 0} {b : _} (by : Ground S) where
   pub ok_comes : {E : Type 0} (n : ℕ) {p q : Plan ℕ} {v w : ℕ} (r : Result (Advance S b) E) → p ≡ q → v ≤ w → IfOk r (λ a. Comes by n p v a) → IfOk r (λ a. Comes by n q w a)
   ok_comes n (Ok a) e l h = comes_same e l h
   ok_comes n (Err x) e l h = tt
+
+  pub ok_from : {E : Type 0} (n m : ℕ) (p q : Plan ℕ) (v w : ℕ) (r : Result (Advance S b) E) → ((a : Advance S b) → Comes by m p v a → Comes by n q w a) → IfOk r (λ a. Comes by m p v a) → IfOk r (λ a. Comes by n q w a)
+  ok_from n m p q v w (Ok a) f h = f a h
+  ok_from n m p q v w (Err x) f h = tt
+
+  -- what a plan comes to, a plan that moves on to it comes to
+  leads_on : {n : ℕ} {p q : Plan ℕ} → Moves (script_in by) n p n q → (e : Event S b) → LeadsTo by n q e → LeadsTo by n p e
+  leads_on f (E.Went r) h = further (script_in by) f h
+  leads_on f (E.Asks a) h = further (script_in by) f h
+  leads_on f (E.Makes kind t maker rest) h = further (script_in by) f h
+  leads_on f (E.Gives v left) h = further (script_in by) f h
+  leads_on f (E.Throws e left) h = further (script_in by) f h
+
+  comes_to : {n : ℕ} {p q : Plan ℕ} → Moves (script_in by) n p n q → (a : Advance S b) → ComesTo by n q a → ComesTo by n p a
+  comes_to f (A.On r) h = further (script_in by) f h
+  comes_to f (A.Comes e) h = leads_on f e h
+
+  pub leads_from : {n w : ℕ} {p q : Plan ℕ} {e : Event S b} → Moves (script_in by) n p n q → Leads by n q w e → Leads by n p w e
+  leads_from {e = e} f h = record { goes = leads_on f e h.goes; took = h.took; light = h.light }
+
+  pub comes_from : {n w : ℕ} {p q : Plan ℕ} {a : Advance S b} → Moves (script_in by) n p n q → Comes by n q w a → Comes by n p w a
+  comes_from {a = a} f h = record { goes = comes_to f a h.goes; took = h.took; light = h.light }

@@ -7,3 +7,7 @@ pub mod Splitting
 pub mod Callings
 pub mod Bodies
 pub mod Places
+pub mod Branches
+pub mod Tellings
+pub mod Turnings
+pub mod Runs

@@ -15,11 +15,8 @@ mod telling;
 mod turning;
 
 pub use rules::Rules;
-pub use running::run;
+pub use running::advance;
 pub use state::{
     Advance, Asker, Asking, Beginning, Called, Code, Event, FoundNow, Frame, Maker, Members, Now,
     Parting, ProperTerm, Purpose, Ready, Rest, Runner, Seeking, Sequence, Stepping,
 };
-
-#[test]
-fn nothing() {}

@@ -138,13 +138,20 @@ fn frame_told<R: Rules>(
             members,
         } => part_told(alloc, code, purpose, values, members, value, rest),
         Frame::Let { body, locals } => {
-            Ok(Advance::On(let_told(alloc, code, body, locals, value, rest)?))
+            let runner = let_told(alloc, code, body, locals, value, rest)?;
+            Ok(Advance::On(runner))
         }
         Frame::If { yes, no, locals } => {
             Ok(Advance::On(if_told(code, yes, no, locals, value, rest)))
         }
-        Frame::And(members) => Ok(Advance::On(while_all(code, value, members, rest)?)),
-        Frame::Or(members) => Ok(Advance::On(until_any(code, value, members, rest)?)),
+        Frame::And(members) => {
+            let runner = while_all(code, value, members, rest)?;
+            Ok(Advance::On(runner))
+        }
+        Frame::Or(members) => {
+            let runner = until_any(code, value, members, rest)?;
+            Ok(Advance::On(runner))
+        }
         Frame::Print => Ok(Advance::On(print_told(code, value, rest))),
     }
 }

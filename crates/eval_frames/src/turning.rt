@@ -20,9 +20,9 @@ use crate::state::{
     Rest, Runner, Seeking, Stepping,
 };
 use seq_base::Thrown;
-use seq_turns::{Next, Proper, ProperList};
-use seq_values::{Answer, CellId, Kind, Term, Turn, Value};
-use seq_vector::{NoMemory, PVec};
+use seq_turns::{Next, Proper, ProperList, part_of};
+use seq_values::{Answer, CellId, Turn, Value};
+use seq_vector::NoMemory;
 use std::alloc::Global;
 
 /// A rule's own step.
@@ -69,17 +69,12 @@ fn seeks<R: Rules>(code: &Code, value: Value, rule: Seeking<R>, rest: Rest<R>) -
     requires asks { NotNow (plain value) }
     ensures { Leads (ground R.running R.table code.now) rest.left (seq (plain value) (λ w. then (R.running.left rule.state (got w)) (beneath (ground R.running R.table code.now) rest))) (rest_weight code.now rest) result }
 {
-    match value {
-        Value::Cell(id) => asks(code, id, Asking::Seq(rule), rest),
-        Value::Nil => misses(Value::Nil, rule, rest),
-        Value::Bool(truth) => misses(Value::Bool(truth), rule, rest),
-        Value::Int(number) => misses(Value::Int(number), rule, rest),
-        Value::Keyword(name) => misses(Value::Keyword(name), rule, rest),
-        Value::Text(text) => misses(Value::Text(text), rule, rest),
-        Value::Vector { depth, items } => misses(Value::Vector { depth, items }, rule, rest),
-        Value::Function(function) => misses(Value::Function(function), rule, rest),
-        Value::Node(node) => misses(Value::Node(node), rule, rest),
-        Value::Reduced { depth, value } => misses(Value::Reduced { depth, value }, rule, rest),
+    match part_of(&value) {
+        Some(id) => {
+            let_go(value);
+            asks(code, id, Asking::Seq(rule), rest)
+        }
+        None => misses(value, rule, rest),
     }
 }
 
