@@ -1,0 +1,13 @@
+pub mod Moving
+pub mod Evals
+pub mod Shapes
+pub mod Pushing
+pub mod Going
+pub mod Splitting
+pub mod Callings
+pub mod Bodies
+pub mod Places
+pub mod Branches
+pub mod Tellings
+pub mod Turnings
+pub mod Runs
