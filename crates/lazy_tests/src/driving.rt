@@ -1,15 +1,14 @@
 //! A rule is answered turn by turn, until it ends.
-ghost use Rattle.std.specs.Prelude.{◌≡◌, IsTrue};
+ghost use Rattle.std.specs.Prelude.{◌≡◌, IfOk, IfSome};
 ghost use Rattle.lazy_rules.specs.Left.{wait_of};
-ghost use Rattle.seq_turns.specs.Turning.{Fits, a_seq, a_value, a_part};
-ghost use Rattle.seq_values.specs.WellFormed.{are_well_formed};
-ghost use Rattle.seq_values.specs.WellFormedTerms.{is_well_formed_term};
+ghost use Rattle.seq_turns.specs.Turning.{Fits, IsSeq, a_seq, a_value, a_part};
+ghost use Rattle.seq_values.specs.Plain.{plain};
 
 use crate::asked::Asked;
 use lazy_rules::{RuleState, turn};
 use seq_turns::{Proper, ProperList};
-use seq_values::{Answer, CellId, Term, Turn, Value};
-use seq_vector::{NoMemory, PVec};
+use seq_values::{Answer, CellId, Turn, Value};
+use seq_vector::NoMemory;
 use std::alloc::Global;
 use std::test::Fail;
 use turn_lines::{Elements, Keeper, Kept, Record, called, needed, sought};
@@ -28,69 +27,88 @@ fn told(alloc: Global, state: RuleState, answer: Answer) -> Result<Asked, Fail>
     }
 }
 
-#[tactic(auto, using(turn_lines::proofs::Fitting::seq_fits))]
-/// A `seq` is answered, unless the value has none.
-fn told_seq(
-    alloc: Global,
-    state: RuleState,
-    value: Value,
-    elements: Elements,
-) -> Result<Option<Asked>, Fail>
-    requires { wait_of state.state ≡ a_seq }
-{
-    let given = sought(alloc, &value, elements).map_err(full)?;
-    match given {
-        None => Ok(None),
-        Some(given) => {
-            let next = told(alloc, state, Answer::Got(given.value))?;
-            Ok(Some(next))
-        }
+/// There was no memory for an answer. The rule is let go.
+fn no_memory(_state: RuleState, why: NoMemory) -> Result<Asked, Fail> {
+    Err(full(why))
+}
+
+/// The rule ends with what it asked last.
+fn ended(_state: RuleState) -> Result<Option<Asked>, Fail> {
+    Ok(None)
+}
+
+fn goes_on(next: Result<Asked, Fail>) -> Result<Option<Asked>, Fail> {
+    match next {
+        Ok(next) => Ok(Some(next)),
+        Err(why) => Err(why),
     }
 }
 
-#[tactic(auto, using(turn_lines::proofs::Fitting::value_fits))]
-fn told_value(alloc: Global, state: RuleState, value: Proper) -> Result<Asked, Fail>
-    requires { wait_of state.state ≡ a_value }
+#[tactic(auto, using(turn_lines::proofs::Fitting::seq_fits))]
+/// The `seq` that was asked is told.
+fn told_seq(alloc: Global, state: RuleState, given: Proper) -> Result<Option<Asked>, Fail>
+    requires waits { wait_of state.state ≡ a_seq }
+    requires seq { IsSeq (plain given.value) }
 {
-    told(alloc, state, Answer::Got(value.value))
+    goes_on(told(alloc, state, Answer::Got(given.value)))
 }
 
-fn told_called(
+/// A `seq` is answered, unless the value has none.
+fn told_sought(
     alloc: Global,
     state: RuleState,
-    function: Value,
-    args: PVec<Value>,
-) -> Result<Asked, Fail>
-    requires waits { wait_of state.state ≡ a_value }
-    requires well { IsTrue (are_well_formed args) }
+    given: Result<Option<Proper>, NoMemory>,
+) -> Result<Option<Asked>, Fail>
+    requires waits { wait_of state.state ≡ a_seq }
+    requires seq { IfOk given (λ x. IfSome x (λ v. IsSeq (plain v.value))) }
 {
-    let args = ProperList { items: args };
-    let value = called(alloc, &function, args).map_err(full)?;
-    told_value(alloc, state, value)
+    match given {
+        Ok(Some(given)) => told_seq(alloc, state, given),
+        Ok(None) => ended(state),
+        Err(why) => goes_on(no_memory(state, why)),
+    }
 }
 
-fn told_part(alloc: Global, state: RuleState, id: CellId) -> Result<Asked, Fail>
+/// The `seq` of a value that isn't there at once.
+fn seq_of(alloc: Global, value: Value, elements: Elements) -> Result<Option<Proper>, NoMemory>
+    ensures { IfOk result (λ x. IfSome x (λ v. IsSeq (plain v.value))) }
+{
+    let given = sought(alloc, &value, elements)?;
+    Ok(given)
+}
+
+#[tactic(auto, using(turn_lines::proofs::Fitting::value_fits))]
+/// A value that was asked is told.
+fn told_value(
+    alloc: Global,
+    state: RuleState,
+    value: Result<Proper, NoMemory>,
+) -> Result<Asked, Fail>
     requires { wait_of state.state ≡ a_value }
 {
-    let value = needed(alloc, id).map_err(full)?;
-    told_value(alloc, state, value)
+    match value {
+        Ok(value) => told(alloc, state, Answer::Got(value.value)),
+        Err(why) => no_memory(state, why),
+    }
+}
+
+/// What a function gives.
+fn answer_of(alloc: Global, function: Value, args: ProperList) -> Result<Proper, NoMemory> {
+    let answer = called(alloc, &function, args)?;
+    Ok(answer)
+}
+
+fn no_part(_state: RuleState) -> Result<Asked, Fail> {
+    Err(Fail::from("no part"))
 }
 
 #[tactic(auto, using(turn_lines::proofs::Fitting::part_fits))]
-/// The part is made, and its term is kept.
-fn told_made(
-    alloc: Global,
-    state: RuleState,
-    term: Term,
-    number: u32,
-    keeper: &mut Keeper,
-) -> Result<Asked, Fail>
-    requires waits { wait_of state.state ≡ a_part }
-    requires well { IsTrue (is_well_formed_term term) }
+/// The part was made.
+fn told_made(alloc: Global, state: RuleState, id: Option<CellId>) -> Result<Asked, Fail>
+    requires { wait_of state.state ≡ a_part }
 {
-    keeper.keep(number, Kept { term });
-    match CellId::of(number) {
-        None => Err(Fail::from("no part")),
+    match id {
+        None => no_part(state),
         Some(id) => told(alloc, state, Answer::Made(id)),
     }
 }
@@ -105,16 +123,21 @@ fn answered(
     elements: Elements,
 ) -> Result<Option<Asked>, Fail> {
     let Asked { state, turn } = asked;
-    let next = match turn {
-        Turn::Visit => told(alloc, state, Answer::Done)?,
-        Turn::Seq(value) => return told_seq(alloc, state, value, elements),
-        Turn::Need(id) => told_part(alloc, state, id)?,
-        Turn::Apply { function, args } => told_called(alloc, state, function, args)?,
-        Turn::Make { kind: _, term } => told_made(alloc, state, term, number, keeper)?,
-        Turn::Give(_) => return Ok(None),
-        Turn::Throw(_) => return Ok(None),
-    };
-    Ok(Some(next))
+    match turn {
+        Turn::Visit => goes_on(told(alloc, state, Answer::Done)),
+        Turn::Seq(value) => told_sought(alloc, state, seq_of(alloc, value, elements)),
+        Turn::Need(id) => goes_on(told_value(alloc, state, needed(alloc, id))),
+        Turn::Apply { function, args } => {
+            let answer = answer_of(alloc, function, ProperList { items: args });
+            goes_on(told_value(alloc, state, answer))
+        }
+        Turn::Make { kind: _, term } => {
+            keeper.keep(number, Kept { term });
+            goes_on(told_made(alloc, state, CellId::of(number)))
+        }
+        Turn::Give(_) => ended(state),
+        Turn::Throw(_) => ended(state),
+    }
 }
 
 /// Runs a rule to its end. What it asked is written down, and a part that it made is kept.
