@@ -39,7 +39,8 @@ fn sum_to_six(alloc: Global, args: ProperList) -> Result<Proper, NoMemory> {
 
 /// A collection with one more item: a vector at its end, another one at its front.
 fn joined(alloc: Global, whole: Proper, item: Proper) -> Result<Proper, NoMemory> {
-    match whole.value {
+    let Proper { value } = whole;
+    match value {
         Value::Vector { depth, items } => made(one_more(alloc, depth, items, item)?),
         other => made(put_first(alloc, item, Proper { value: other })?),
     }
