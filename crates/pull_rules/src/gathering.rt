@@ -63,11 +63,12 @@ fn gathered(alloc: Global, flow: Flowed, outputs: Outputs) -> Result<GatheringTu
 {
     let mut here = FlowedSoFar { flow, outputs };
     loop {
-        here = match here.flow {
-            Flowed::Asks(next) => return Ok(asks(next, here.outputs)),
-            Flowed::Out { waiting, item } => gathers_one(alloc, waiting, item, here.outputs)?,
-            Flowed::Throw(why) => return Ok(stopped(why, here.outputs)),
-            Flowed::Rest(stages) => return Ok(rests(stages, here.outputs)),
+        let FlowedSoFar { flow, outputs } = here;
+        here = match flow {
+            Flowed::Asks(next) => return Ok(asks(next, outputs)),
+            Flowed::Out { waiting, item } => gathers_one(alloc, waiting, item, outputs)?,
+            Flowed::Throw(why) => return Ok(stopped(why, outputs)),
+            Flowed::Rest(stages) => return Ok(rests(stages, outputs)),
         };
     }
 }
