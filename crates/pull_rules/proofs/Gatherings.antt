@@ -1,13 +1,13 @@
 -- What stages whose outputs are gathered came to, and that they give few outputs without a turn.
-use Rattle.std.proofs.Common.{◌≡◌, ℕ, zero, suc, ◌+◌, ◌<◌, Bool, true, false, cond, List, [], ◌∷◌, ◌++◌, refl, ap, sym, subst, ◌∙◌, arith}
+use Rattle.std.proofs.Common.{◌≡◌, ℕ, suc, ◌<◌, Bool, true, false, cond, List, [], ◌∷◌, ◌++◌, refl, ap, sym, subst, ◌∙◌, arith}
 use Rattle.seq_base.specs.declared.thrown.Thrown.{Thrown}
 use Rattle.seq_values.specs.Model as M
 use Rattle.seq_values.specs.Model.{◌&◌}
 use Rattle.seq_values.specs.Plain.{plain, plains}
 use Rattle.seq_plan.specs.Plan.{Plan, visit, ask, seq, call, go, make, give, throw, then, plan_of, Loop, enter_from, Round, ends_with, fails, visits, calls_for}
 use Rattle.seq_plan.specs.Nodes.{Found, now, asks_for, no_seq, found, is_nil}
-use Rattle.seq_plan.specs.Stages.{Onward, Sink, reduces, gathers, enter_round}
-use Rattle.seq_turns.specs.Turning.{Silent, arrives, opens, finds}
+use Rattle.seq_plan.specs.Stages.{Onward, reduces, gathers, enter_round}
+use Rattle.seq_turns.specs.Turning.{arrives, opens, finds}
 use Rattle.seq_turns.specs.declared.next.Next.{Next}
 use Rattle.seq_turns.specs.declared.proper.Proper.{Proper}
 use Rattle.seq_turns.proofs.Taking.{joins}
@@ -18,8 +18,6 @@ use Rattle.xf_stages.specs.declared.state.AtOut.{AtOut}
 use Rattle.pull_rules.specs.Reducing.{Errand, Flows, Gathers, FlowedRests, IsFlowedAsked, flowed_node}
 use Rattle.pull_rules.specs.declared.flow.Flowed.{Flowed}
 use Rattle.pull_rules.specs.declared.flow.Flowed.TheVariants as F
-use Rattle.pull_rules.specs.declared.flow.Gathering.{Gathering}
-use Rattle.pull_rules.specs.declared.flow.GatheringTurn.{GatheringTurn}
 use Rattle.pull_rules.specs.declared.flow.GatheringTurn.TheVariants as GT
 use Rattle.pull_rules.specs.declared.flow.Outputs.{Outputs}
 use Rattle.pull_rules.specs.declared.flow.Waiting.{Waiting}

@@ -2,7 +2,7 @@ use Rattle.std.proofs.Common.{sym, subst}
 use Rattle.seq_values.specs.Plain.{plains}
 use Rattle.seq_plan.specs.Stages.{gathers}
 use Rattle.pull_rules.specs.Reducing.{Gathers}
-use Rattle.pull_rules.proofs.Gatherings.{Advances, fewer_out, advances_first, advances_asks, advances_throw, advances_rest, advances_output}
+use Rattle.pull_rules.proofs.Gatherings.{fewer_out, advances_first, advances_asks, advances_throw, advances_rest, advances_output}
 use Rattle.pull_rules.proofs.gathering.gathered.Goals as goal
 
 pub loop-next-init : goal.loop-next-init
