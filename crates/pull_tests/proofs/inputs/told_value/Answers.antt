@@ -1,0 +1,4 @@
+use Rattle.pull_tests.proofs.inputs.told_value.Goals as goal
+
+pub standing-requires : goal.standing-requires
+standing-requires c = c.in_ok-turn.ensures.asked
