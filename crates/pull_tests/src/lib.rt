@@ -10,8 +10,6 @@ mod functions;
 #[cfg(test)]
 mod given;
 #[cfg(test)]
-mod inputs;
-#[cfg(test)]
 mod reducing;
 #[cfg(test)]
 mod rows;
