@@ -1,6 +1,5 @@
 //! Stages are driven through their turns, and what they do is written down.
-ghost use Rattle.std.specs.Prelude.{◌≡◌, ℕ, List, [], Some, None, IfOk, IfSome};
-ghost use Rattle.seq_values.specs.Model as M;
+ghost use Rattle.std.specs.Prelude.{◌≡◌, [], Some, None, Ok, Err, IfOk, IfSome};
 ghost use Rattle.stage_tests.specs.Following.{Follows, LeadsTo};
 ghost use Rattle.xf_stages.specs.Left.{RestsWith, at_rest, stages_in};
 
@@ -13,6 +12,47 @@ use seq_vector::NoMemory;
 use std::alloc::Global;
 use xf_stages::{AtCall, AtOut, AtSeq, AtStep, StageTurn, Stages};
 
+/// Lets a value go.
+pub(crate) fn let_go<T: Drop>(_value: T) {}
+
+/// There was no memory for an answer.
+fn no_turn<T: Drop>(_waiting: T, why: NoMemory) -> Result<StageTurn, NoMemory>
+    ensures { result ≡ Err why }
+{
+    Err(why)
+}
+
+/// What a function gives.
+fn shown_answer(
+    alloc: Global,
+    function: &Proper,
+    args: ProperList,
+    line: &mut Line,
+) -> Result<Proper, NoMemory> {
+    show_call(&function.value, &args.items, line)?;
+    answer_of(alloc, &function.value, args)
+}
+
+fn answered(alloc: Global, waiting: AtCall, answer: Proper) -> Result<StageTurn, NoMemory>
+    ensures { IfOk result (RestsWith (at_rest waiting.flow)) }
+{
+    let turn = waiting.answered(alloc, answer)?;
+    Ok(turn)
+}
+
+fn told_answer(
+    alloc: Global,
+    waiting: AtCall,
+    answer: Result<Proper, NoMemory>,
+) -> Result<StageTurn, NoMemory>
+    ensures { IfOk result (RestsWith (at_rest waiting.flow)) }
+{
+    match answer {
+        Ok(answer) => answered(alloc, waiting, answer),
+        Err(why) => no_turn(waiting, why),
+    }
+}
+
 /// A call is answered.
 fn called(
     alloc: Global,
@@ -23,26 +63,15 @@ fn called(
 ) -> Result<StageTurn, NoMemory>
     ensures { IfOk result (RestsWith (at_rest waiting.flow)) }
 {
-    show_call(&function.value, &args.items, line)?;
-    let answer = answer_of(alloc, &function.value, args)?;
-    let turn = waiting.answered(alloc, answer)?;
-    Ok(turn)
+    let answer = shown_answer(alloc, &function, args, line);
+    let_go(function);
+    told_answer(alloc, waiting, answer)
 }
 
-/// The seq of a part is there, or a value has none.
-fn sought(
-    alloc: Global,
-    waiting: AtSeq,
-    value: Proper,
-    line: &mut Line,
-) -> Result<StageTurn, NoMemory>
-    ensures { IfOk result (RestsWith (at_rest waiting.flow)) }
-{
+/// The seq of a value that isn't there at once.
+fn shown_seq(alloc: Global, value: &Proper, line: &mut Line) -> Result<Option<Seen>, NoMemory> {
     show_asked(&value.value, line)?;
-    match seq_of(alloc, &value.value)? {
-        Some(what) => found(alloc, waiting, what),
-        None => Ok(no_seq(waiting)),
-    }
+    seq_of(alloc, &value.value)
 }
 
 fn found(alloc: Global, waiting: AtSeq, what: Seen) -> Result<StageTurn, NoMemory>
@@ -53,10 +82,38 @@ fn found(alloc: Global, waiting: AtSeq, what: Seen) -> Result<StageTurn, NoMemor
 }
 
 /// A value that has no seq throws.
-fn no_seq(_waiting: AtSeq) -> StageTurn
-    ensures { (stages : List (M.Value ℕ)) → RestsWith stages result }
+fn no_seq(_waiting: AtSeq) -> Result<StageTurn, NoMemory>
+    ensures { result ≡ Ok (StageTurn.Throw Thrown.BadType) }
 {
-    StageTurn::Throw(Thrown::BadType)
+    Ok(StageTurn::Throw(Thrown::BadType))
+}
+
+fn told_seq(
+    alloc: Global,
+    waiting: AtSeq,
+    what: Result<Option<Seen>, NoMemory>,
+) -> Result<StageTurn, NoMemory>
+    ensures { IfOk result (RestsWith (at_rest waiting.flow)) }
+{
+    match what {
+        Ok(Some(what)) => found(alloc, waiting, what),
+        Ok(None) => no_seq(waiting),
+        Err(why) => no_turn(waiting, why),
+    }
+}
+
+/// A seq is asked for.
+fn sought(
+    alloc: Global,
+    waiting: AtSeq,
+    value: Proper,
+    line: &mut Line,
+) -> Result<StageTurn, NoMemory>
+    ensures { IfOk result (RestsWith (at_rest waiting.flow)) }
+{
+    let what = shown_seq(alloc, &value, line);
+    let_go(value);
+    told_seq(alloc, waiting, what)
 }
 
 /// The own step is taken.
@@ -68,6 +125,26 @@ fn stepped(alloc: Global, waiting: AtStep, line: &mut Line) -> Result<StageTurn,
     Ok(turn)
 }
 
+fn told_passed(alloc: Global, waiting: AtOut, ends: bool) -> Result<StageTurn, NoMemory>
+    ensures { IfOk result (RestsWith (at_rest waiting.flow)) }
+{
+    let turn = waiting.passed(alloc, ends)?;
+    Ok(turn)
+}
+
+fn told_output(
+    alloc: Global,
+    waiting: AtOut,
+    ends: Result<bool, NoMemory>,
+) -> Result<StageTurn, NoMemory>
+    ensures { IfOk result (RestsWith (at_rest waiting.flow)) }
+{
+    match ends {
+        Ok(ends) => told_passed(alloc, waiting, ends),
+        Err(why) => no_turn(waiting, why),
+    }
+}
+
 /// What passed the last stage is taken.
 fn passed(
     alloc: Global,
@@ -77,9 +154,9 @@ fn passed(
 ) -> Result<StageTurn, NoMemory>
     ensures { IfOk result (RestsWith (at_rest waiting.flow)) }
 {
-    let ends = show_output(&item.value, line)?;
-    let turn = waiting.passed(alloc, ends)?;
-    Ok(turn)
+    let ends = show_output(&item.value, line);
+    let_go(item);
+    told_output(alloc, waiting, ends)
 }
 
 fn goes_on(turn: &StageTurn) -> bool {
@@ -145,9 +222,10 @@ fn at_end(stages: Stages, line: &mut Line) -> Result<Option<Stages>, NoMemory>
     Ok(Some(stages))
 }
 
-fn no_end(_turn: StageTurn, line: &mut Line) -> Result<Option<Stages>, NoMemory>
+fn no_end(turn: StageTurn, line: &mut Line) -> Result<Option<Stages>, NoMemory>
     ensures { IfOk result (λ x. x ≡ None) }
 {
+    let_go(turn);
     line.append(b"no end")?;
     Ok(None)
 }

@@ -1,6 +1,6 @@
 //! The stages of reducer values and of folds, through which the elements of a collection go. What is expected is what https://clojure.org/reference/reducers says.
 use crate::driving::walked;
-use crate::states::{kept_states, show_states};
+use crate::states::shown_states;
 use reducer_values::{Foldable, foldable_of, is_reducer_word, reducer_call};
 use seq_turns::{Proper, ProperList};
 use seq_values::{Builtin, Line};
@@ -50,8 +50,8 @@ fn layers(alloc: Global, words: &[Layer], bottom: Sample) -> Result<Proper, NoMe
 fn ended(alloc: Global, after: Option<Stages>, line: &mut Line) -> Result<(), NoMemory> {
     match after {
         Some(stages) => {
-            let states = kept_states(alloc, stages)?;
-            show_states(&states, line)
+            let _states = shown_states(alloc, stages, line)?;
+            Ok(())
         }
         None => Ok(()),
     }
@@ -79,8 +79,9 @@ fn reduced(alloc: Global, words: &[Layer], bottom: Sample) -> Result<Line, NoMem
 /// What the first row did that doesn't do what it says, and nothing where all do.
 fn differing(alloc: Global, rows: &[Row]) -> Result<Line, NoMemory> {
     for (words, bottom, expected) in rows {
-        let line = reduced(alloc, words, *bottom)?;
+        let mut line = reduced(alloc, words, *bottom)?;
         if line.bytes() != expected.as_bytes() {
+            line.append(b"differs")?;
             return Ok(line);
         }
     }
@@ -227,8 +228,9 @@ type FoldRow = (&'static [Layer], u32, usize, &'static str);
 
 fn fold_differing(alloc: Global, rows: &[FoldRow]) -> Result<Line, NoMemory> {
     for (words, count, at, expected) in rows {
-        let line = folded(alloc, words, *count, *at)?;
+        let mut line = folded(alloc, words, *count, *at)?;
         if line.bytes() != expected.as_bytes() {
+            line.append(b"differs")?;
             return Ok(line);
         }
     }

@@ -37,8 +37,9 @@ fn row(alloc: Global, pieces: &[Piece], acts: &[Act]) -> Result<Line, NoMemory> 
 /// What the first row did that doesn't do what it says, and nothing where all do.
 fn differing(alloc: Global, rows: &[Row]) -> Result<Line, NoMemory> {
     for (pieces, acts, expected) in rows {
-        let line = row(alloc, pieces, acts)?;
+        let mut line = row(alloc, pieces, acts)?;
         if line.bytes() != expected.as_bytes() {
+            line.append(b"differs")?;
             return Ok(line);
         }
     }
@@ -531,8 +532,9 @@ fn nested(alloc: Global, inner: &[&[Piece]], acts: &[Act]) -> Result<Line, NoMem
 
 fn nested_differing(alloc: Global, rows: &[Nested]) -> Result<Line, NoMemory> {
     for (inner, acts, expected) in rows {
-        let line = nested(alloc, inner, acts)?;
+        let mut line = nested(alloc, inner, acts)?;
         if line.bytes() != expected.as_bytes() {
+            line.append(b"differs")?;
             return Ok(line);
         }
     }

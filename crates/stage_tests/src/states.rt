@@ -23,7 +23,7 @@ fn one_nil(alloc: Global) -> Result<Gathered, NoMemory>
 }
 
 /// nil, and then the states that stages keep.
-pub(crate) fn kept_states(alloc: Global, stages: Stages) -> Result<ProperList, NoMemory>
+fn kept_states(alloc: Global, stages: Stages) -> Result<ProperList, NoMemory>
     ensures { IfOk result (λ all. are_states (kept_in stages) (sights (M.values (plains (drop 1 all.items)))) ≡ true) }
 {
     let nil = one_nil(alloc)?;
@@ -37,11 +37,32 @@ pub(crate) fn kept_states(alloc: Global, stages: Stages) -> Result<ProperList, N
     }
 }
 
-/// Writes the states behind nil.
-pub(crate) fn show_states(states: &ProperList, line: &mut Line) -> Result<(), NoMemory> {
+fn show_states(states: &ProperList, line: &mut Line) -> Result<(), NoMemory> {
     line.append(b"keeps")?;
     show_all(&states.items, 1, line)?;
     line.append(b"; ")
+}
+
+/// Writes the states that stages keep.
+pub(crate) fn shown_states(
+    alloc: Global,
+    stages: Stages,
+    line: &mut Line,
+) -> Result<ProperList, NoMemory>
+    ensures { IfOk result (λ all. are_states (kept_in stages) (sights (M.values (plains (drop 1 all.items)))) ≡ true) }
+{
+    let states = kept_states(alloc, stages)?;
+    show_states(&states, line)?;
+    Ok(states)
+}
+
+/// New stages get the states behind nil.
+fn restored(alloc: Global, fresh: Stages, states: ProperList) -> Result<Stages, NoMemory>
+    requires { are_states (kept_in fresh) (sights (M.values (plains (drop 1 states.items)))) ≡ true }
+    ensures { IfOk result (λ s. stages_in s ≡ stages_in fresh) }
+{
+    let stages = fresh.with_states(alloc, &states, 1)?;
+    Ok(stages)
 }
 
 /// New stages get the states of old ones.
@@ -54,8 +75,6 @@ pub(crate) fn given_back(
     requires { kept_in old ≡ kept_in fresh }
     ensures { IfOk result (λ s. stages_in s ≡ stages_in fresh) }
 {
-    let states = kept_states(alloc, old)?;
-    show_states(&states, line)?;
-    let stages = fresh.with_states(alloc, &states, 1)?;
-    Ok(stages)
+    let states = shown_states(alloc, old, line)?;
+    restored(alloc, fresh, states)
 }
