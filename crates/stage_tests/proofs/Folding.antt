@@ -1,14 +1,14 @@
 -- The stages of a fold, from one on.
-use Rattle.std.proofs.Common.{◌≡◌, ℕ, zero, suc, ℤ, pos, Bool, true, false, ◌&&◌, List, [], ◌∷◌, drop, map, ◌++◌, refl, ap, sym, ◌∙◌, rules, arith}
+use Rattle.std.proofs.Common.{◌≡◌, ℕ, zero, suc, ℤ, pos, true, List, [], ◌∷◌, drop, map, refl, ap, sym, ◌∙◌, arith}
 use Rattle.std.specs.Prelude.{IsTrue}
 use Rattle.seq_values.specs.Model as M
-use Rattle.seq_values.specs.Plain.{plain, plains, plain_term}
+use Rattle.seq_values.specs.Plain.{plain, plains}
 use Rattle.seq_values.specs.Sight.{Sight, a_nil, a_bool, an_int, a_vector, a_cell, an_empty, a_cons, a_chunked, a_function, another}
 use Rattle.seq_values.specs.Depth.{Grade, flat, node_grade, value_grade, function_grade, graded}
 use Rattle.seq_values.specs.declared.value.Node.TheFolds.{fold-roll-Value}
 use Rattle.seq_values.specs.declared.value.Node.TheOpen.{Value-F}
 use Rattle.seq_values.specs.WellFormed.{Seen, node_seen, value_seen, function_seen, seen, sight_of, is_well_formed, are_well_formed}
-use Rattle.seq_values.specs.WellFormedTerms.{takes, is_fold, are_fold_stages, is_fold_stage, is_well_formed_term}
+use Rattle.seq_values.specs.WellFormedTerms.{takes, is_fold, are_fold_stages, is_fold_stage}
 use Rattle.seq_values.specs.declared.term.Term.{Term}
 use Rattle.seq_values.specs.declared.value.Value.{Value}
 use Rattle.seq_values.specs.declared.value.Value.TheVariants as V

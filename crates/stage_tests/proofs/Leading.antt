@@ -1,8 +1,7 @@
 -- Turns that lead to the same stages.
-use Rattle.std.proofs.Common.{◌≡◌, ℕ, List, refl, sym, subst, ◌∙◌, ap}
+use Rattle.std.proofs.Common.{◌≡◌, ℕ, List, sym, subst, ◌∙◌, ap}
 use Rattle.std.specs.Prelude.{Option, Some, None, IfSome, Result, Ok, Err, IfOk}
 use Rattle.seq_values.specs.Model as M
-use Rattle.seq_values.specs.Plain.{plain}
 use Rattle.seq_plan.specs.WellFormed.{sight}
 use Rattle.seq_turns.specs.declared.proper.Proper.{Proper}
 use Rattle.seq_turns.specs.declared.proper.ProperList.{ProperList}

@@ -1,4 +1,3 @@
-use Rattle.std.proofs.Common.{ℕ}
 use Rattle.stage_tests.specs.Following.{Follows}
 use Rattle.stage_tests.proofs.driving.run.Given as goal
 

@@ -1,5 +1,5 @@
 use Rattle.seq_values.specs.Plain.{plain}
-use Rattle.stage_tests.proofs.Leading.{same_kept, back_through}
+use Rattle.stage_tests.proofs.Leading.{same_kept}
 use Rattle.stage_tests.proofs.standing.goes_on.Goals as goal
 
 pub given_back-requires : goal.given_back-requires
