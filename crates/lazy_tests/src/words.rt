@@ -115,7 +115,7 @@ fn maps(rt: HostRuntime) -> Result<(), Fail> {
 }
 
 /// `filter`, `keep` and `remove`.
-const SIFTS: [Row; 19] = [
+const SIFTS: [Row; 22] = [
     (
         Builtin::Filter,
         &[Arg::Word(Builtin::IsOdd), Arg::Range(0, 40)],
@@ -152,6 +152,7 @@ const SIFTS: [Row; 19] = [
         &["filter[#fn \"t\"]#1, = #1", "seq \"t\", "],
     ),
     (Builtin::Filter, &[Arg::Word(Builtin::IsOdd)], &["= #fn"]),
+    (Builtin::Filter, &[Arg::Deepest], &["! depth"]),
     (Builtin::Filter, &[], &["! arity"]),
     (
         Builtin::Filter,
@@ -186,6 +187,7 @@ const SIFTS: [Row; 19] = [
         ],
     ),
     (Builtin::Keep, &[Arg::Word(Builtin::IsOdd)], &["= #fn"]),
+    (Builtin::Keep, &[Arg::Deepest], &["! depth"]),
     (Builtin::Keep, &[], &["! arity"]),
     (Builtin::Keep, &[Arg::Nil, Arg::Nil, Arg::Nil], &["! arity"]),
     (
@@ -207,6 +209,7 @@ const SIFTS: [Row; 19] = [
         ],
     ),
     (Builtin::Remove, &[Arg::Word(Builtin::IsOdd)], &["= #fn"]),
+    (Builtin::Remove, &[Arg::Deepest], &["! depth"]),
     (Builtin::Remove, &[], &["! arity"]),
     (
         Builtin::Remove,
@@ -299,7 +302,7 @@ fn takes_and_drops(rt: HostRuntime) -> Result<(), Fail> {
 }
 
 /// `take-while` and `drop-while`.
-const WHILES: [Row; 12] = [
+const WHILES: [Row; 14] = [
     (
         Builtin::TakeWhile,
         &[Arg::Word(Builtin::IsOdd), Arg::List(1, 3)],
@@ -324,6 +327,7 @@ const WHILES: [Row; 12] = [
         &["take-while[#fn nil]#1, = #1", "= nil"],
     ),
     (Builtin::TakeWhile, &[Arg::Word(Builtin::IsOdd)], &["= #fn"]),
+    (Builtin::TakeWhile, &[Arg::Deepest], &["! depth"]),
     (Builtin::TakeWhile, &[], &["! arity"]),
     (
         Builtin::TakeWhile,
@@ -346,6 +350,7 @@ const WHILES: [Row; 12] = [
         &["drop-while[#fn #9]#1, = #1", "seq #9, 2 calls, = {10}"],
     ),
     (Builtin::DropWhile, &[Arg::Word(Builtin::IsOdd)], &["= #fn"]),
+    (Builtin::DropWhile, &[Arg::Deepest], &["! depth"]),
     (Builtin::DropWhile, &[], &["! arity"]),
     (
         Builtin::DropWhile,
@@ -362,7 +367,7 @@ fn takes_and_drops_while(rt: HostRuntime) -> Result<(), Fail> {
 }
 
 /// `concat` and `mapcat`.
-const JOINS: [Row; 12] = [
+const JOINS: [Row; 13] = [
     (Builtin::Concat, &[], &["concat[]#1, = #1", "= nil"]),
     (
         Builtin::Concat,
@@ -430,6 +435,7 @@ const JOINS: [Row; 12] = [
         &["mapcat[#fn nil]#1, = #1", "= nil"],
     ),
     (Builtin::Mapcat, &[Arg::Word(Builtin::Vector)], &["= #fn"]),
+    (Builtin::Mapcat, &[Arg::Deepest], &["! depth"]),
     (Builtin::Mapcat, &[], &["! arity"]),
     (
         Builtin::Mapcat,
