@@ -125,12 +125,60 @@ fn refusals(rt: HostRuntime) -> Result<(), Fail> {
     Ok(())
 }
 
+/// Scripts that are looked at alone: what is written, and the status.
+#[test]
+fn checks(rt: HostRuntime) -> Result<(), Fail> {
+    let rows: [(&[&str], &[u8], Status, &str); 8] = [
+        (&["--check"], b"", Status::Done, "forms 0\n"),
+        (
+            &["--check"],
+            b"(prn 1)\n(ledger)",
+            Status::Done,
+            "forms 2\n",
+        ),
+        (
+            &["--check", "--workers", "0"],
+            b"(defn f [x] (lazy-seq (map inc x))) (prn (f [1]))",
+            Status::Done,
+            "forms 2\n",
+        ),
+        (
+            &["--workers=0", "--check"],
+            b"(prn (inc 1)",
+            Status::ScriptRefused,
+            "refused 2 1:1\n",
+        ),
+        (
+            &["--check"],
+            b"(prn none)",
+            Status::ScriptRefused,
+            "refused 7 1:6\n",
+        ),
+        (
+            &["--workers=0"],
+            b"(prn 1)",
+            Status::ScriptRefused,
+            "refused 10 1:1\n",
+        ),
+        (&["--check", "--check"], b"", Status::Usage, ""),
+        (&["--check", "--cells=9"], b"", Status::Usage, ""),
+    ];
+    for (words, text, status, lines) in rows {
+        let (ended, written) = answer(rt.alloc(), words, text, 7, (&[], &[]))?;
+        assert_eq!(rt; written.as_slice(), lines.as_bytes(), "{lines}");
+        assert_eq!(rt; ended, status, "{lines}");
+    }
+    Ok(())
+}
+
 /// Words, and sources and sinks that fail in mid-stream.
 #[test]
 fn faults(rt: HostRuntime) -> Result<(), Fail> {
     let text = b"(prn (reduce + (range 5))) (prn (reduce + (range 4)))".as_slice();
-    let rows: [(&[&str], usize, &[u64], &[u64], Status, &str); 8] = [
+    let rows: [(&[&str], usize, &[u64], &[u64], Status, &str); 10] = [
         (&["--workers"], 8, &[1], &[1], Status::Usage, ""),
+        (&["--check"], 8, &[1], &[], Status::ReadFault, ""),
+        (&["--check"], 4, &[], &[2], Status::WriteFault, "form"),
         (&[""], 8, &[], &[], Status::Usage, ""),
         (&[], 8, &[1], &[], Status::ReadFault, ""),
         (&[], 8, &[2], &[], Status::ReadFault, ""),

@@ -1,11 +1,15 @@
-use Rattle.std.proofs.Common.{Err, ap}
-use Rattle.seq_run.proofs.AnswerLemmas.{too_long_text, too_long_part}
+use Rattle.std.proofs.Common.{IfSome, subst}
+use Rattle.command_line.specs.Settings.{texts}
+use Rattle.command_line.proofs.Spelling.{one_request}
+use Rattle.cljseq.specs.Checked.{PrintedAs, PrintedPartAs}
 use Rattle.cljseq.proofs.command.command.Goals as goal
 
-pub returns-in-Err-TooLong-clause-answered : goal.returns-in-Err-TooLong-clause-answered
-returns-in-Err-TooLong-clause-answered g c =
-    too_long_text _ _ _ _ _ (c.in-Err-TooLong.ensures.long (ap Err c.in-Err-TooLong.field-0-is)) c.refuse.ensures.either c.refuse.ensures.refused
+pub returns-in-Some-clause-answered : goal.returns-in-Some-clause-answered
+returns-in-Some-clause-answered g c = λ request asks either.
+    subst (λ r. IfSome (g.I.Source.left c.args.input.now) (λ text. PrintedAs r text c.answer.result (g.O.Sink.written c.args.out.now) (g.O.Sink.written c.answer.new.out)))
+    (one_request (texts c.args.words.now) c.in-Some.request request c.in-Some.ensures asks) (c.answer.ensures.answered either)
 
-pub returns-in-Err-TooLong-clause-part : goal.returns-in-Err-TooLong-clause-part
-returns-in-Err-TooLong-clause-part g c either =
-    too_long_part _ _ _ _ (c.in-Err-TooLong.ensures.long (ap Err c.in-Err-TooLong.field-0-is)) c.refuse.ensures.part
+pub returns-in-Some-clause-part : goal.returns-in-Some-clause-part
+returns-in-Some-clause-part g c = λ request asks either.
+    subst (λ r. IfSome (g.I.Source.left c.args.input.now) (λ text. PrintedPartAs r text (g.O.Sink.written c.args.out.now) (g.O.Sink.written c.answer.new.out)))
+    (one_request (texts c.args.words.now) c.in-Some.request request c.in-Some.ensures asks) (c.answer.ensures.part either)

@@ -1,0 +1,15 @@
+//! What the words of the command line ask for.
+#![tactic(auto)]
+
+mod asking;
+mod given;
+mod laws;
+mod setting;
+
+pub use asking::asked;
+pub use given::Asked;
+pub use laws::law_one_request;
+pub use setting::Setting;
+
+#[cfg(test)]
+mod tests;
