@@ -1,5 +1,5 @@
 -- What a work begins with.
-use Rattle.std.proofs.Common.{◌≡◌, ℕ, zero, suc, ◌+◌, ◌*◌, ◌≤◌, max, List, [], ◌∷◌, length, Option, Some, None, refl, sym, ap, subst, ◌∙◌, arith}
+use Rattle.std.proofs.Common.{◌≡◌, ℕ, zero, suc, ◌*◌, ◌≤◌, List, [], ◌∷◌, Option, Some, None, refl, sym, ap, subst, ◌∙◌, arith}
 use Rattle.std.specs.Prelude.{slice_get, sum_by}
 use Rattle.std.specs.Option.{option_map}
 use Rattle.std.proofs.Math.Nat.{le-max_left, le-max_right}
@@ -8,17 +8,16 @@ use Rattle.clj_script.specs.Nodes.{at}
 use Rattle.clj_script.specs.Seen.{seen, trees}
 use Rattle.clj_script.specs.Trees.{Expr}
 use Rattle.seq_values.specs.Model as M
-use Rattle.seq_values.specs.Plain.{plain, plains, plain_term}
-use Rattle.seq_values.specs.declared.value.Value.{Value}
+use Rattle.seq_values.specs.Plain.{plains, plain_term}
 use Rattle.seq_values.specs.declared.words.Op.{Op}
 use Rattle.seq_values.specs.declared.words.Op.TheVariants as O
 use Rattle.seq_values.specs.declared.term.Term.{Term}
 use Rattle.seq_plan.specs.Plan.{Plan, give, throw, then}
 use Rattle.seq_plan.proofs.Thens.{then_gives}
-use Rattle.seq_meaning.specs.Evaluates.{Script, eval, with_body, term_plan}
+use Rattle.seq_meaning.specs.Evaluates.{Script, with_body, term_plan}
 use Rattle.eval_frames.specs.Parts.{tree, IsRuledTerm}
 use Rattle.eval_frames.specs.Frames.{Ground, script_in, under, beneath, evaluated}
-use Rattle.eval_frames.specs.Weights.{weight, weights, heaviest, heaviest_of, heaviest_function, rest_weight, step_weight, frame_weight}
+use Rattle.eval_frames.specs.Weights.{weight, heaviest, heaviest_of, heaviest_function, rest_weight, step_weight, frame_weight}
 use Rattle.eval_frames.specs.declared.state.Rest.{Rest}
 
 -- ## The plan of a term

@@ -1,18 +1,16 @@
 -- What `seq` of a node and of a vector finds.
-use Rattle.std.proofs.Common.{◌≡◌, ℕ, ◌<◌, ℤ, List, [], ◌∷◌, length, true, refl, sym, ap, ◌∙◌, rules, arith}
+use Rattle.std.proofs.Common.{◌≡◌, ℕ, ℤ, List, true, refl, ap}
 use Rattle.std.specs.Prelude.{IsTrue}
 use Rattle.seq_values.specs.Model as M
 use Rattle.seq_values.specs.Model.{◌&◌}
-use Rattle.seq_values.specs.Plain.{plain, plains}
+use Rattle.seq_values.specs.Plain.{plain}
 use Rattle.seq_values.specs.WellFormedTerms.{is_seq}
 use Rattle.seq_values.specs.declared.value.Value.{Value}
 use Rattle.seq_values.specs.declared.value.Value.TheVariants as V
-use Rattle.seq_values.specs.declared.value.Node.{Node}
 use Rattle.seq_values.specs.declared.value.Node.TheVariants as N
 use Rattle.seq_plan.specs.Nodes.{now, found}
 use Rattle.seq_plan.specs.WellFormed.{sight}
-use Rattle.seq_plan.proofs.CursorLemmas.{plain_vec_seq}
-use Rattle.seq_turns.proofs.Seeing.{found_cons, found_chunk, found_range, found_vec_seq, found_items}
+use Rattle.seq_turns.proofs.Seeing.{found_cons, found_chunk, found_range, found_vec_seq}
 
 -- ## Nodes
 

@@ -1,5 +1,5 @@
 -- A work that has gone on from where it stood, with no own step.
-use Rattle.std.proofs.Common.{◌≡◌, ℕ, ◌+◌, ◌<◌, ◌≤◌, refl, sym, ap, subst, ◌∙◌, arith, IfOk, Ok, Err}
+use Rattle.std.proofs.Common.{◌≡◌, ℕ, ◌<◌, ◌≤◌, refl, subst, ◌∙◌, arith, IfOk, Ok, Err}
 use Rattle.std.specs.declared.result.Result.{Result}
 use Rattle.seq_plan.specs.Plan.{Plan}
 use Rattle.eval_frames.specs.Frames.{Ground, script_in, runner_plan}

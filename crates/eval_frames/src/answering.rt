@@ -30,12 +30,7 @@ fn no_seq<R: Rules>(rule: Seeking<R>, rest: Rest<R>) -> Event<R>
 }
 
 /// A rule that waits for the `seq` of this value: it goes on where that is there, or a further part is asked.
-fn seq_told<R: Rules>(
-    code: &Code,
-    rule: Seeking<R>,
-    value: Proper,
-    rest: Rest<R>,
-) -> Advance<R>
+fn seq_told<R: Rules>(code: &Code, rule: Seeking<R>, value: Proper, rest: Rest<R>) -> Advance<R>
     ensures { Comes (ground R.running R.table code.now) rest.left (seq (plain value.value) (λ w. then (R.running.left rule.state (got w)) (beneath (ground R.running R.table code.now) rest))) (rest_weight code.now rest + 2) result }
 {
     match found_now(value) {
@@ -49,12 +44,7 @@ fn seq_told<R: Rules>(
 }
 
 /// A rule is told the value of the part that it asked.
-fn part_told<R: Rules>(
-    code: &Code,
-    asking: Asking<R>,
-    value: Proper,
-    rest: Rest<R>,
-) -> Advance<R>
+fn part_told<R: Rules>(code: &Code, asking: Asking<R>, value: Proper, rest: Rest<R>) -> Advance<R>
     ensures { Comes (ground R.running R.table code.now) rest.left (asking_plan (ground R.running R.table code.now) asking (beneath (ground R.running R.table code.now) rest) (plain value.value)) (rest_weight code.now rest + 2) result }
 {
     match asking {

@@ -66,12 +66,7 @@ fn begin_body<R: Rules>(
 }
 
 /// The rule of a term.
-fn begin_rule<R: Rules>(
-    alloc: Global,
-    code: &Code,
-    limit: u64,
-    term: ProperTerm,
-) -> Entered<R>
+fn begin_rule<R: Rules>(alloc: Global, code: &Code, limit: u64, term: ProperTerm) -> Entered<R>
     requires { IsRuledTerm term.term.op }
     ensures { Enters (ground R.running R.table code.now) limit (term_plan (script_in (ground R.running R.table code.now)) (plain_term term.term)) (limit * step_weight code.now + (heaviest (seen code.now.program) + 1)) result }
 {
@@ -83,12 +78,7 @@ fn begin_rule<R: Rules>(
 }
 
 /// The work of a part begins, with so many own steps to take. It takes no memory.
-pub fn begin_part<R: Rules>(
-    alloc: Global,
-    code: &Code,
-    limit: u64,
-    term: ProperTerm,
-) -> Entered<R>
+pub fn begin_part<R: Rules>(alloc: Global, code: &Code, limit: u64, term: ProperTerm) -> Entered<R>
     ensures { Enters (ground R.running R.table code.now) limit (term_plan (script_in (ground R.running R.table code.now)) (plain_term term.term)) (limit * step_weight code.now + (heaviest (seen code.now.program) + 1)) result }
 {
     match term.term.op {

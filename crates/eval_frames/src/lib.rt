@@ -22,6 +22,6 @@ pub use beginning::{begin_form, begin_part};
 pub use rules::Rules;
 pub use running::{advance, run};
 pub use state::{
-    Advance, Asker, Asking, Beginning, Called, Code, Entered, Event, FoundNow, Frame, Maker, Members, Now,
-    Parting, ProperTerm, Purpose, Ready, Rest, Runner, Seeking, Sequence, Stepping,
+    Advance, Asker, Asking, Beginning, Called, Code, Entered, Event, FoundNow, Frame, Maker,
+    Members, Now, Parting, ProperTerm, Purpose, Ready, Rest, Runner, Seeking, Sequence, Stepping,
 };

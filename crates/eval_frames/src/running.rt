@@ -30,11 +30,7 @@ pub fn advance<R: Rules>(
 }
 
 /// What a work comes to next: an own step, an ask, a make or its end. Want of memory is the only `Err`, and lets the work go.
-pub fn run<R: Rules>(
-    alloc: Global,
-    code: &Code,
-    runner: Runner<R>,
-) -> Result<Event<R>, NoMemory>
+pub fn run<R: Rules>(alloc: Global, code: &Code, runner: Runner<R>) -> Result<Event<R>, NoMemory>
     ensures { IfOk result (λ e. Leads (ground R.running R.table code.now) runner.rest.left (runner_plan (ground R.running R.table code.now) runner) (runner_weight code.now runner) e) }
 {
     let mut runner = runner;

@@ -1,4 +1,4 @@
-use Rattle.std.proofs.Common.{◌≡◌, ◌+◌, refl, sym, ap, arith}
+use Rattle.std.proofs.Common.{sym, ap, arith}
 use Rattle.eval_frames.specs.Frames.{ground, beneath, asking_plan}
 use Rattle.seq_values.specs.Plain.{plain}
 use Rattle.eval_frames.proofs.Going.{comes_same}

@@ -1,4 +1,4 @@
-use Rattle.std.proofs.Common.{◌≡◌, ◌+◌, refl, arith}
+use Rattle.std.proofs.Common.{refl, arith}
 use Rattle.eval_frames.specs.Frames.{ground, script_in}
 use Rattle.eval_frames.specs.Weights.{rest_weight}
 use Rattle.eval_frames.proofs.Moving.{once_moves, sought_moves, missed_moves}

@@ -1,4 +1,4 @@
-use Rattle.std.proofs.Common.{◌≡◌, ◌+◌, ◌*◌, ap, ◌∙◌, arith}
+use Rattle.std.proofs.Common.{◌*◌, ap, ◌∙◌, arith}
 use Rattle.eval_frames.specs.Frames.{ground}
 use Rattle.eval_frames.specs.Weights.{step_weight}
 use Rattle.seq_plan.specs.Plan.{then, begun}
