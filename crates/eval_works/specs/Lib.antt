@@ -1,0 +1,4 @@
+pub mod Standing
+pub mod Halts
+pub mod Asked
+pub mod Begins
