@@ -1,5 +1,5 @@
 -- Turns of the action `fold`.
-use Rattle.std.proofs.Common.{◌≡◌, ◌≢◌, ℕ, zero, suc, ◌+◌, ◌≤◌, ◌<◌, ◌/◌, ℤ, pos, negsuc, ◌≤ℤ◌, ◌<ℤ◌, List, [], ◌∷◌, length, take, drop, refl, ap, sym, ◌∙◌, arith}
+use Rattle.std.proofs.Common.{◌≡◌, ◌≢◌, ℕ, zero, suc, ◌+◌, ◌≤◌, ◌<◌, ◌/◌, ℤ, pos, negsuc, ◌≤ℤ◌, ◌<ℤ◌, List, [], ◌∷◌, length, take, drop, refl, ap, sym, subst, ◌∙◌, arith}
 use Rattle.std.proofs.lemmas.Int.{ints}
 use Rattle.std.proofs.lemmas.List.{length-map, take-map, drop-map}
 use Rattle.seq_values.specs.Model as M
@@ -8,7 +8,7 @@ use Rattle.seq_values.specs.declared.value.Value.{Value}
 use Rattle.seq_values.specs.declared.words.Kind.TheVariants as K
 use Rattle.seq_values.specs.declared.words.Op.TheVariants as O
 use Rattle.seq_plan.specs.Nodes.{make_term}
-use Rattle.seq_plan.specs.Plan.{Plan, call, give}
+use Rattle.seq_plan.specs.Plan.{Plan, call, give, make}
 use Rattle.seq_plan.specs.Stages.{reduces, fresh, enter_each}
 use Rattle.seq_turns.specs.Turning.{Takes}
 use Rattle.seq_turns.specs.declared.next.Next.{Next}
@@ -18,8 +18,9 @@ use Rattle.fold_rows.proofs.Halves.{folds_a_group, folds_halves}
 use Rattle.xf_stages.specs.Left.{stages_in, states_in}
 use Rattle.xf_stages.specs.Opening.{AreFresh}
 use Rattle.xf_stages.specs.declared.state.Stages.{Stages}
-use Rattle.fold_rules.specs.Left.{after, combined, left_value, reduced_to, running}
+use Rattle.fold_rules.specs.Left.{after, combined, halved, left_value, reduced_to, running, second_half}
 use Rattle.fold_rules.specs.declared.state.AtValue.TheVariants as V
+use Rattle.fold_rules.specs.declared.state.Fold.{Fold}
 use Rattle.fold_rules.specs.declared.state.Pending.{Pending}
 use Rattle.fold_rules.specs.declared.state.State.{State}
 use Rattle.fold_rules.proofs.Taking.{takes_same}
@@ -29,6 +30,13 @@ within a b h = omega (arith, ints)
 
 above : (a b : ℕ) → pos a <ℤ pos b → a < b
 above a b h = omega (arith, ints)
+
+-- the same number, as it is handed on
+pub le_same : (n m : ℤ) (k : ℕ) → n ≡ m → pos k ≤ℤ n → pos k ≤ℤ m
+le_same n m k e h = subst (λ z. pos k ≤ℤ z) e h
+
+pub lt_same : (n m : ℤ) (k : ℕ) → n ≡ m → n <ℤ pos k → m <ℤ pos k
+lt_same n m k e h = subst (λ z. z <ℤ pos k) e h
 
 module _ (combine f : M.Value ℕ) (stages : List (M.Value ℕ)) (items : List Value) (k : M.Value ℕ → Plan ℕ) where
   long : length (plains items) ≡ length items
@@ -71,3 +79,11 @@ first_asked combine s f c p args v r e q h = takes_same (λ i. call combine (pla
 
 pub answer_asked : (combine : M.Value ℕ) (p : Pending) (args : List Value) (r : Next State) → args ≡ [] → Takes running (call combine (plains args) (after p)) r → Takes running (call combine [] (after p)) r
 answer_asked combine p args r q h = takes_same (ap (λ l. call combine (plains l) (after p)) q) h
+
+-- ## Two halves
+
+pub halves_made : (f : Fold) (first second a b : List Value) (p : Pending) (t : M.Term ℕ) (r : Next State) → first ≡ a → second ≡ b → t ≡ record { op = O.Fold; args = second_half f second } → Takes running (make K.Future t (λ m. halved f first p m)) r → Takes running (make_term K.Future O.Fold (second_half f b) (λ m. halved f a p m)) r
+halves_made f first second a b p t r e s q h =
+    takes_same (
+    (λ i. make K.Future (q i) (λ m. halved f first p m))
+    ∙ (λ i. make K.Future (record { op = O.Fold; args = second_half f (s i) }) (λ m. halved f (e i) p m))) h

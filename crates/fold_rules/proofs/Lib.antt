@@ -3,5 +3,5 @@ pub mod Taking
 pub mod Pendings
 pub mod Reductions
 pub mod Foldings
-pub mod Terms
+pub mod FoldTerms
 pub mod WordTurns

@@ -146,7 +146,7 @@ fn no_items(fold: Fold, items: Items, pending: Pending) -> Next<State>
 }
 
 /// The items before a place, and those from there on.
-fn parts(alloc: Global, items: Items, at: usize) -> Result<Parts, NoMemory>
+fn parted(alloc: Global, items: Items, at: usize) -> Result<Parts, NoMemory>
     requires { at ≤ length items.items }
     ensures first { IfOk result (λ p. p.first.items ≡ take at items.items) }
     ensures second { IfOk result (λ p. p.second.items ≡ drop at items.items) }
@@ -167,7 +167,8 @@ fn halves(
     requires { half ≤ length items.items }
     ensures { IfOk result (λ r. Takes running (make_term K.Future O.Fold (second_half fold (drop half items.items)) (λ m. halved fold (take half items.items) pending m)) r) }
 {
-    let Parts { first, second } = parts(alloc, items, half)?;
+    let parts = parted(alloc, items, half)?;
+    let Parts { first, second } = parts;
     let term = future_term(alloc, &fold, second)?;
     Ok(makes(
         State::Part(AtPart::Second {

@@ -11,7 +11,7 @@ ghost use Rattle.seq_values.specs.WellFormed.{is_well_formed};
 ghost use Rattle.seq_values.specs.WellFormedTerms.{is_well_formed_term, takes};
 ghost use Rattle.seq_values.specs.declared.words.Op.TheVariants as O;
 
-use crate::arguments::without;
+use crate::arguments::{Four, without};
 use crate::folding::folds;
 use crate::state::{Fold, Pending, State, Work};
 use reducer_values::Items;
@@ -21,7 +21,7 @@ use seq_vector::NoMemory;
 use std::alloc::Global;
 
 /// The work of a future begins.
-#[tactic(auto, using(seq_values::proofs::WellFormedLemmas::term_args, crate::proofs::Terms::work_takes))]
+#[tactic(auto, using(seq_values::proofs::WellFormedLemmas::term_args, crate::proofs::FoldTerms::work_takes))]
 pub(crate) fn work_begins(alloc: Global, work: Work) -> Result<Next<State>, NoMemory>
     ensures { IfOk result (λ r. Takes running (fold_term (plains work.term.args)) r) }
 {
@@ -31,46 +31,61 @@ pub(crate) fn work_begins(alloc: Global, work: Work) -> Result<Next<State>, NoMe
     Ok(without(next, args))
 }
 
+/// The arguments before the stages.
+#[tactic(auto, using(crate::proofs::FoldTerms::args_are))]
+fn first_four(args: &ProperList) -> Result<Four, NoMemory>
+    requires { 4 ≤ length args.now.items }
+    ensures { IfOk result (λ x. args.now.items ≡ x.first.value ∷ x.second.value ∷ x.third.value ∷ x.fourth.value ∷ drop 4 args.now.items) }
+{
+    let first = args.at(0)?;
+    let second = args.at(1)?;
+    let third = args.at(2)?;
+    let fourth = args.at(3)?;
+    Ok(Four {
+        first,
+        second,
+        third,
+        fourth,
+    })
+}
+
 /// The items, and what they are folded by.
 fn fold_begins(alloc: Global, args: &ProperList) -> Result<Next<State>, NoMemory>
     requires { takes O.Fold (sights (M.values (plains args.now.items))) ≡ true }
     ensures { IfOk result (λ r. Takes running (fold_term (plains args.now.items)) r) }
 {
-    let items = args.at(0)?;
-    let size = args.at(1)?;
-    let combine = args.at(2)?;
-    let function = args.at(3)?;
+    let first = first_four(args)?;
     let stages = behind(alloc, args, 4)?;
-    let next = fold_on(alloc, items, size, combine, function, stages)?;
+    let next = fold_on(alloc, first, stages)?;
     Ok(next)
 }
 
 /// The values of a list from a place on, shared.
-#[tactic(auto, using(crate::proofs::Terms::behind_well, crate::proofs::Terms::behind_all))]
+#[tactic(auto, using(crate::proofs::FoldTerms::behind_well, crate::proofs::FoldTerms::behind_all, crate::proofs::FoldTerms::behind_few))]
 fn behind(alloc: Global, args: &ProperList, at: usize) -> Result<ProperList, NoMemory>
     requires { at ≤ length args.now.items }
     ensures same { IfOk result (λ all. all.items ≡ drop at args.now.items) }
+    ensures few { IfOk result (λ all. length all.items + at ≤ 4294967295) }
 {
-    match args.items.window(alloc, at, args.len() - at)? {
+    match args.items.window(alloc, at, args.items.len() - at)? {
         Some(items) => Ok(ProperList { items }),
         None => unreachable!(),
     }
 }
 
 /// The items are folded.
-fn fold_on(
-    alloc: Global,
-    items: Proper,
-    size: Proper,
-    combine: Proper,
-    function: Proper,
-    stages: ProperList,
-) -> Result<Next<State>, NoMemory>
-    requires fits { takes O.Fold (sights (M.values (plain items.value ∷ plain size.value ∷ plain combine.value ∷ plain function.value ∷ plains stages.items))) ≡ true }
+fn fold_on(alloc: Global, first: Four, stages: ProperList) -> Result<Next<State>, NoMemory>
+    requires fits { takes O.Fold (sights (M.values (plain first.first.value ∷ plain first.second.value ∷ plain first.third.value ∷ plain first.fourth.value ∷ plains stages.items))) ≡ true }
     requires few { length stages.items ≤ 4294967291 }
-    ensures { IfOk result (λ r. Takes running (fold_term (plain items.value ∷ plain size.value ∷ plain combine.value ∷ plain function.value ∷ plains stages.items)) r) }
+    ensures { IfOk result (λ r. Takes running (fold_term (plain first.first.value ∷ plain first.second.value ∷ plain first.third.value ∷ plain first.fourth.value ∷ plains stages.items)) r) }
 {
-    let items = items_in(items);
+    let Four {
+        first: items,
+        second: size,
+        third: combine,
+        fourth: function,
+    } = first;
+    let items = items_in(items.value);
     let size = size_in(size);
     let none = Pending::none(alloc);
     let fold = Fold {
@@ -85,11 +100,12 @@ fn fold_on(
 
 /// The items of a vector.
 #[tactic(auto, using(seq_turns::proofs::Seeing::plain_vector))]
-fn items_in(value: Proper) -> Items
-    requires { is_vector (plain value.value) ≡ true }
-    ensures { plain value.value ≡ M.vector (M.values (plains result.items)) }
+fn items_in(value: Value) -> Items
+    requires vector { is_vector (plain value) ≡ true }
+    requires well { IsTrue (is_well_formed value) }
+    ensures { plain value ≡ M.vector (M.values (plains result.items)) }
 {
-    match value.value {
+    match value {
         Value::Nil => unreachable!(),
         Value::Bool(_) => unreachable!(),
         Value::Int(_) => unreachable!(),
@@ -116,7 +132,7 @@ fn size_in(value: Proper) -> i64
 }
 
 /// The arguments of a fold before its stages.
-#[tactic(auto, using(crate::proofs::Terms::four_gathered))]
+#[tactic(auto, using(crate::proofs::FoldTerms::four_gathered))]
 fn before_stages(
     alloc: Global,
     items: Proper,
@@ -150,7 +166,7 @@ fn and_all(before: Gathered, more: &ProperList) -> Result<Gathered, NoMemory>
 }
 
 /// The arguments of a future that folds these items by the same.
-#[tactic(auto, using(crate::proofs::Terms::second_args))]
+#[tactic(auto, using(crate::proofs::FoldTerms::second_args))]
 fn future_args(alloc: Global, fold: &Fold, items: Items) -> Result<ProperList, NoMemory>
     ensures { IfOk result (λ all. plains all.items ≡ second_half fold.now items.items) }
 {
@@ -164,7 +180,7 @@ fn future_args(alloc: Global, fold: &Fold, items: Items) -> Result<ProperList, N
 }
 
 /// The term of a future that folds these items by the same.
-#[tactic(auto, using(crate::proofs::Terms::second_well))]
+#[tactic(auto, using(crate::proofs::FoldTerms::second_well))]
 pub(crate) fn future_term(alloc: Global, fold: &Fold, items: Items) -> Result<Term, NoMemory>
     ensures stands { IfOk result (λ t. plain_term t ≡ record { op = O.Fold; args = second_half fold.now items.items }) }
     ensures well { IfOk result (λ t. IsTrue (is_well_formed_term t)) }

@@ -2,7 +2,7 @@
 use Rattle.std.proofs.Common.{◌≡◌, ℕ, zero, suc, ◌+◌, ◌-◌, ◌≤◌, ◌<◌, ℤ, pos, ◌<ℤ◌, int_lt, ◌&&◌, true, List, [], ◌∷◌, ◌++◌, length, take, drop, refl, ap, sym, subst, ◌∙◌, arith, length-append}
 use Rattle.std.specs.Prelude.{IsTrue}
 use Rattle.std.proofs.lemmas.Int.{ints}
-use Rattle.std.proofs.lemmas.List.{length-map, length-drop, drop_all, take_all, append_assoc, append-nil}
+use Rattle.std.proofs.lemmas.List.{length-drop, length-take, drop_all, take_all, append_assoc, append-nil}
 use Rattle.seq_values.specs.Model as M
 use Rattle.seq_values.specs.Plain.{plain, plains}
 use Rattle.seq_values.specs.Sight.{Sight, an_int, a_vector}
@@ -60,6 +60,10 @@ four_there (x ∷ y ∷ z ∷ w ∷ xs) e = omega arith
 pub args_are : (xs : List Value) (v n c f : Value) (ss : List Value) → drop 0 xs ≡ v ∷ drop (0 + 1) xs → drop 1 xs ≡ n ∷ drop (1 + 1) xs → drop 2 xs ≡ c ∷ drop (2 + 1) xs → drop 3 xs ≡ f ∷ drop (3 + 1) xs → ss ≡ drop 4 xs → xs ≡ v ∷ n ∷ c ∷ f ∷ ss
 args_are xs v n c f ss e q p o s = e ∙ ap (λ l. v ∷ l) (q ∙ ap (λ l. n ∷ l) (p ∙ ap (λ l. c ∷ l) (o ∙ ap (λ l. f ∷ l) (sym s))))
 
+-- with the stages
+pub args_with : (xs : List Value) (v n c f : Value) (ss : List Value) → xs ≡ v ∷ n ∷ c ∷ f ∷ drop 4 xs → ss ≡ drop 4 xs → xs ≡ v ∷ n ∷ c ∷ f ∷ ss
+args_with xs v n c f ss e s = e ∙ ap (λ l. v ∷ n ∷ c ∷ f ∷ l) (sym s)
+
 pub vector_there : (v n c f : M.Value ℕ) (ss : List (M.Value ℕ)) → takes O.Fold (sights (M.values (v ∷ n ∷ c ∷ f ∷ ss))) ≡ true → is_vector v ≡ true
 vector_there (M.vector xs) n c f ss e = refl
 vector_there _ n c f ss e = absurd cc
@@ -82,6 +86,9 @@ behind_all xs ys at n l e = e ∙ take_all (n - at) (drop at xs) (omega (arith, 
 
 pub behind_well : (xs ys : List Value) (at n : ℕ) → ys ≡ take n (drop at xs) → IsTrue (are_well_formed xs) → IsTrue (are_well_formed ys)
 behind_well xs ys at n e h = subst (λ zs. IsTrue (are_well_formed zs)) (sym e) (well_front (drop at xs) n (well_back xs at h))
+
+pub behind_few : (xs ys : List Value) (at n : ℕ) → ys ≡ take n (drop at xs) → at ≤ length xs → length xs ≤ 4294967295 → length ys + at ≤ 4294967295
+behind_few xs ys at n e b l = omega (arith, ap length e, length-take n (drop at xs), length-drop at xs)
 
 -- ## The term of a second half
 
@@ -119,3 +126,9 @@ above n h = grind (arith, ints)
 
 pub second_well : (f : Fold) (items args : List Value) → IsTrue (are_well_formed args) → plains args ≡ second_half f items → IsTrue (is_well_formed_term (record { op = O.Fold; args = args }))
 second_well f items args w e = formed_term (record { op = O.Fold; args = args }) (list_keeps args w) (well_term (all_well args w) (ap (λ l. takes O.Fold (sights (M.values l))) e ∙ both (above f.size f.some) f.fit))
+
+abbrev folds_of : List (M.Value ℕ) → M.Term ℕ
+folds_of xs = record { op = O.Fold; args = xs }
+
+pub term_with : {xs ys : List (M.Value ℕ)} → xs ≡ ys → folds_of xs ≡ folds_of ys
+term_with e = ap folds_of e
