@@ -11,11 +11,11 @@ use Rattle.fold_rules.proofs.Taking.{takes_same}
 use Rattle.fold_rules.proofs.FoldTerms.{size_there, stages_there, term_goes, vector_there}
 use Rattle.fold_rules.proofs.terms.fold_on.Goals as goal
 
-pub items_in-requires-clause-vector : goal.items_in-requires-clause-vector
-items_in-requires-clause-vector c = vector_there (plain c.args.first.first.value) (plain c.args.first.second.value) (plain c.args.first.third.value) (plain c.args.first.fourth.value) (plains c.args.stages.items) c.requires.fits
+pub items_in-items-requires-clause-vector : goal.items_in-items-requires-clause-vector
+items_in-items-requires-clause-vector c = vector_there (plain c.args.first.first.value) (plain c.args.first.second.value) (plain c.args.first.third.value) (plain c.args.first.fourth.value) (plains c.args.stages.items) c.requires.fits
 
-pub size_in-requires : goal.size_in-requires
-size_in-requires c = size_there (M.values (plains c.items_in-items.result.items)) (plain c.args.first.second.value) (plain c.args.first.third.value) (plain c.args.first.fourth.value) (plains c.args.stages.items) (ap (λ v. takes O.Fold (sights (M.values (v ∷ plain c.args.first.second.value ∷ plain c.args.first.third.value ∷ plain c.args.first.fourth.value ∷ plains c.args.stages.items)))) (sym c.items_in-items.ensures) ∙ c.requires.fits)
+pub size_in-size-requires : goal.size_in-size-requires
+size_in-size-requires c = size_there (M.values (plains c.items_in-items.result.items)) (plain c.args.first.second.value) (plain c.args.first.third.value) (plain c.args.first.fourth.value) (plains c.args.stages.items) (ap (λ v. takes O.Fold (sights (M.values (v ∷ plain c.args.first.second.value ∷ plain c.args.first.third.value ∷ plain c.args.first.fourth.value ∷ plains c.args.stages.items)))) (sym c.items_in-items.ensures) ∙ c.requires.fits)
 
 pub invariant_of-fold-clause-fit : goal.invariant_of-fold-clause-fit
 invariant_of-fold-clause-fit c = stages_there (M.values (plains c.items_in-items.result.items)) c.size_in-size.result (plain c.args.first.third.value) (plain c.args.first.fourth.value) (plains c.args.stages.items) ((λ i. takes O.Fold (sights (M.values (sym c.items_in-items.ensures i ∷ sym c.size_in-size.ensures.same i ∷ plain c.args.first.third.value ∷ plain c.args.first.fourth.value ∷ plains c.args.stages.items)))) ∙ c.requires.fits)
