@@ -1,14 +1,13 @@
 -- Calls.
-use Rattle.std.proofs.Common.{◌≡◌, ℕ, zero, suc, ◌+◌, ◌-◌, ◌*◌, ◌<◌, ◌≤◌, max, List, [], ◌∷◌, map, length, Bool, true, false, cond, nat_eq, Option, Some, None, refl, sym, ap, subst, ◌∙◌, rules, arith}
+use Rattle.std.proofs.Common.{◌≡◌, ℕ, ◌+◌, ◌-◌, ◌*◌, ◌≤◌, List, length, false, Option, Some, None, refl, sym, ap, subst, ◌∙◌, rules, arith}
 use Rattle.std.specs.Prelude.{slice_get, sum_by}
 use Rattle.std.specs.Option.{option_map}
-use Rattle.std.proofs.Math.Nat.{le-max_left, le-max_right}
+use Rattle.std.proofs.Math.Nat.{le-max_left}
 use Rattle.std.proofs.lemmas.List.{length-map}
 use Rattle.seq_base.specs.declared.thrown.Thrown.{Thrown}
-use Rattle.seq_base.specs.declared.thrown.Thrown.TheVariants.{Arity, BadType, Steps}
+use Rattle.seq_base.specs.declared.thrown.Thrown.TheVariants.{Arity, BadType}
 use Rattle.clj_script.specs.Nodes.{at}
-use Rattle.clj_script.specs.Seen.{seen, trees, body_of, body_among}
-use Rattle.clj_script.specs.Trees.{Expr}
+use Rattle.clj_script.specs.Seen.{seen, trees, body_of}
 use Rattle.seq_values.specs.Model as M
 use Rattle.seq_values.specs.Model.{◌&◌}
 use Rattle.seq_values.specs.Plain.{plain, plains}
@@ -20,8 +19,8 @@ use Rattle.seq_values.specs.declared.words.Target.{Target}
 use Rattle.seq_values.specs.declared.words.Target.TheVariants as T
 use Rattle.seq_plan.specs.Plan.{Plan, call, give, throw, then}
 use Rattle.seq_plan.proofs.CursorLemmas.{list_values}
-use Rattle.seq_meaning.specs.Evaluates.{Script, eval, body_for, body_in, with_body, called}
-use Rattle.eval_frames.specs.Parts.{script_of, tree, IsRuled, is_function}
+use Rattle.seq_meaning.specs.Evaluates.{Script, body_in, with_body, called}
+use Rattle.eval_frames.specs.Parts.{tree, IsRuled, is_function}
 use Rattle.eval_frames.specs.Frames.{Ground, script_in, under, beneath, evaluated}
 use Rattle.eval_frames.specs.Leads.{Stands, Leads, Enters}
 use Rattle.eval_frames.specs.Weights.{weight, heaviest, heaviest_body, heaviest_function, rest_weight, step_weight, frame_weight}

@@ -1,12 +1,11 @@
 -- What goes on after an expression.
-use Rattle.std.proofs.Common.{◌≡◌, ℕ, zero, suc, ◌+◌, ◌≤◌, List, [], ◌∷◌, ◌++◌, length, Option, Some, None, refl, sym, ap, subst, ◌∙◌, cond, true, false, nat_eq, nat_le, Bool, arith}
-use Rattle.std.specs.Prelude.{slice_get}
-use Rattle.seq_base.specs.declared.thrown.Thrown.TheVariants.{Arity, Depth, Overflow}
+use Rattle.std.proofs.Common.{◌≡◌, List, [], ◌∷◌, ◌++◌, length, refl, ap, ◌∙◌, cond, true, false, nat_le, Bool}
+use Rattle.seq_base.specs.declared.thrown.Thrown.TheVariants.{Depth, Overflow}
 use Rattle.clj_script.specs.Trees.{Expr, literal, word, function_of, defined, local, vector_of, call_of, let_in, if_of, and_of, or_of, lazy_seq, Exprs, no_exprs, more_exprs}
 use Rattle.seq_values.specs.Model.{Value, nil, bool, vector, values}
 use Rattle.seq_plan.specs.Plan.{Plan, call, give, throw, then}
 use Rattle.seq_plan.specs.Nodes.{if_true, is_truthy, with_value, with_members, depth, deepest, longest}
-use Rattle.seq_meaning.specs.Evaluates.{Script, eval, evals, while_true, until_true, with_body}
+use Rattle.seq_meaning.specs.Evaluates.{eval, evals, while_true, until_true}
 
 module _ {C : Type 0} where
   then_cond : (b : Bool) (p q : Plan C) (h : Value C → Plan C) → then (cond b p q) h ≡ cond b (then p h) (then q h)

@@ -1,17 +1,16 @@
 -- Works that stand at a plan, and what they come to.
-use Rattle.std.proofs.Common.{◌≡◌, ℕ, ◌+◌, ◌-◌, ◌≤◌, suc, refl, sym, ap, subst, ◌∙◌, arith, IfOk, Ok, Err}
+use Rattle.std.proofs.Common.{◌≡◌, ℕ, ◌+◌, ◌≤◌, refl, sym, subst, ◌∙◌, arith, IfOk, Ok, Err}
 use Rattle.std.specs.declared.result.Result.{Result}
 use Rattle.seq_base.specs.declared.thrown.Thrown.{Thrown}
 use Rattle.seq_plan.specs.Plan.{Plan, throw}
 use Rattle.eval_frames.specs.Frames.{Ground, script_in}
-use Rattle.eval_frames.specs.Leads.{Moves, LeadsTo, ComesTo, Stands, Comes, Leads, Enters}
-use Rattle.eval_frames.specs.Steps.{TookStep, TookNode}
+use Rattle.eval_frames.specs.Leads.{Moves, LeadsTo, ComesTo, Stands, Comes, Leads}
 use Rattle.eval_frames.specs.declared.state.Runner.{Runner}
 use Rattle.eval_frames.specs.declared.state.Event.{Event}
 use Rattle.eval_frames.specs.declared.state.Event.TheVariants as E
 use Rattle.eval_frames.specs.declared.state.Advance.{Advance}
 use Rattle.eval_frames.specs.declared.state.Advance.TheVariants as A
-use Rattle.eval_frames.proofs.Moving.{stays, stands, further}
+use Rattle.eval_frames.proofs.Moving.{stands, further}
 
 module _ {S : Type 0} {b : _} (by : Ground S) where
   pub stands_same : {n : ℕ} {p q : Plan ℕ} {v w : ℕ} {r : Runner S b} → p ≡ q → v ≤ w → Stands by n p v r → Stands by n q w r

@@ -11,3 +11,5 @@ pub mod Branches
 pub mod Tellings
 pub mod Turnings
 pub mod Runs
+pub mod Findings
+pub mod Beginnings

@@ -1,5 +1,5 @@
 -- How trails go on, over plans.
-use Rattle.std.proofs.Common.{◌≡◌, ℕ, zero, suc, ◌+◌, ◌-◌, ◌<◌, List, [], ◌∷◌, refl, sym, subst, ◌∙◌, arith}
+use Rattle.std.proofs.Common.{◌≡◌, ℕ, suc, ◌+◌, List, sym, subst, arith}
 use Rattle.seq_base.specs.declared.thrown.Thrown.TheVariants.{BadType, Steps}
 use Rattle.seq_values.specs.Model as M
 use Rattle.seq_plan.specs.Plan.{Plan, visit, ask, seq, call, throw, then, plan_of}
@@ -7,7 +7,7 @@ use Rattle.seq_plan.specs.Nodes.{now, asks_for, no_seq, found}
 use Rattle.seq_plan.specs.Silent.{Silently, arrives, opens, finds}
 use Rattle.seq_plan.proofs.Thens.{then_joins}
 use Rattle.seq_meaning.specs.Evaluates.{Script, called}
-use Rattle.seq_meaning.specs.Trail.{Trail, looped, visited, entered, at_once, sought, missed, tired, IsDue, due_visit, due_ask, due_call}
+use Rattle.seq_meaning.specs.Trail.{Trail, looped, visited, entered, at_once, sought, missed, tired, IsDue}
 use Rattle.eval_frames.specs.Leads.{Moves}
 
 module _ (script : Script ℕ) where

@@ -1,5 +1,5 @@
 -- What an expression is, by its number.
-use Rattle.std.proofs.Common.{◌≡◌, ℕ, zero, suc, ◌+◌, List, [], ◌∷◌, map, Option, Some, None, refl, sym, ap, subst, ◌∙◌, true, Bool, arith}
+use Rattle.std.proofs.Common.{◌≡◌, ℕ, zero, suc, ◌+◌, List, [], ◌∷◌, map, Option, Some, None, refl, sym, ap, ◌∙◌, true, arith}
 use Rattle.std.specs.Prelude.{slice_get, unwrap_or}
 use Rattle.seq_values.specs.declared.value.Value.{Value, out-Value}
 use Rattle.seq_values.specs.declared.value.Node.{Node, out-Node}
@@ -12,7 +12,7 @@ use Rattle.seq_plan.specs.Plan.{Plan}
 use Rattle.clj_script.specs.Literals.{literal_of, literal_of_level, is_empty_level, is_written_level, is_written}
 use Rattle.clj_script.specs.Nodes.{at, tree_over, is_writable}
 use Rattle.clj_script.specs.Seen.{trees}
-use Rattle.clj_script.specs.Trees.{Expr, literal, nil_literal, defined, local, vector_of, call_of, let_in, if_of, and_of, or_of, lazy_seq, Exprs, no_exprs, more_exprs, exprs}
+use Rattle.clj_script.specs.Trees.{Expr, literal, nil_literal, defined, local, vector_of, call_of, let_in, if_of, and_of, or_of, lazy_seq, no_exprs, more_exprs, exprs}
 use Rattle.clj_script.specs.declared.expr.Expr.{Expr as NodeExpr}
 use Rattle.clj_script.specs.declared.expr.Expr.TheVariants as node
 use Rattle.seq_values.specs.declared.words.Builtin.{Builtin}

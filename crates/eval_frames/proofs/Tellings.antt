@@ -1,14 +1,12 @@
 -- What a frame that is told comes to.
-use Rattle.std.proofs.Common.{true, false, ◌≡◌, ℕ, ◌+◌, ◌*◌, ◌<◌, ◌≤◌, length, List, [], ◌∷◌, ◌++◌, refl, sym, ap, subst, ◌∙◌, arith, IfOk, Option, Some, None}
-use Rattle.std.specs.Prelude.{sum_by}
-use Rattle.std.specs.Option.{option_to_list}
+use Rattle.std.proofs.Common.{true, false, ◌≡◌, ℕ, ◌+◌, ◌*◌, ◌<◌, ◌≤◌, length, List, [], ◌∷◌, ◌++◌, refl, sym, ap, subst, arith, IfOk}
 use Rattle.std.specs.declared.result.Result.{Result}
 use Rattle.seq_values.specs.Model as M
 use Rattle.seq_values.specs.Plain.{plain}
-use Rattle.seq_plan.specs.Plan.{Plan, give}
+use Rattle.seq_plan.specs.Plan.{give}
 use Rattle.seq_turns.specs.declared.proper.Proper.{Proper}
 use Rattle.eval_frames.specs.Frames.{Ground, script_in, waits, under, beneath}
-use Rattle.eval_frames.specs.Leads.{Moves, Stands, Comes}
+use Rattle.eval_frames.specs.Leads.{Stands, Comes}
 use Rattle.eval_frames.specs.Weights.{frame_weight, rest_weight, step_weight}
 use Rattle.eval_frames.specs.declared.state.Frame.{Frame}
 use Rattle.eval_frames.specs.declared.state.Frame.TheVariants as F

@@ -1,19 +1,15 @@
 -- The turns of rules, as what a work comes to.
-use Rattle.std.proofs.Common.{◌≡◌, ℕ, ◌+◌, ◌-◌, ◌*◌, ◌≤◌, Bool, true, List, Option, Some, None, refl, sym, ap, subst, ◌∙◌, arith, IfOk, Ok, Err}
-use Rattle.std.specs.declared.result.Result.{Result}
-use Rattle.seq_base.specs.declared.thrown.Thrown.TheVariants.{BadType}
+use Rattle.std.proofs.Common.{◌≡◌, ℕ, ◌+◌, ◌-◌, true, List, Some, None, refl, ap, subst, arith}
 use Rattle.seq_values.specs.Model as M
 use Rattle.seq_values.specs.Model.{◌&◌}
-use Rattle.seq_values.specs.declared.term.Answer.{Answer}
-use Rattle.seq_values.specs.declared.term.Answer.TheVariants as A
-use Rattle.seq_plan.specs.Plan.{Plan, Loop, visit, ask, seq, call, then, done, got}
-use Rattle.seq_plan.specs.Nodes.{now, asks_for, no_seq, found}
+use Rattle.seq_plan.specs.Plan.{Plan, Loop, visit, ask, call, then, done}
+use Rattle.seq_plan.specs.Nodes.{asks_for, no_seq, found}
 use Rattle.seq_turns.specs.Arguments.{part_in}
 use Rattle.seq_turns.specs.Seen.{NotNow}
-use Rattle.seq_turns.specs.Turning.{Running, Silent, Fits, Wait, to_begin, a_step, a_seq, a_value, a_part}
+use Rattle.seq_turns.specs.Turning.{Silent}
 use Rattle.seq_turns.proofs.Transport.{silent_in}
 use Rattle.eval_frames.specs.Frames.{Ground, script_in, beneath, asking_plan}
-use Rattle.eval_frames.specs.Leads.{Moves, Leads, Comes}
+use Rattle.eval_frames.specs.Leads.{Moves, Leads}
 use Rattle.eval_frames.specs.Weights.{rest_weight}
 use Rattle.eval_frames.specs.declared.state.Rest.{Rest}
 use Rattle.eval_frames.specs.declared.state.Stepping.{Stepping}

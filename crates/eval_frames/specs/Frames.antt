@@ -1,6 +1,5 @@
 -- What frames stand for: what is still done with a value that is told.
 use Rattle.std.specs.Prelude.{ℕ, List, [], ◌∷◌, ◌++◌}
-use Rattle.clj_script.specs.Trees.{Expr}
 use Rattle.seq_values.specs.Model as M
 use Rattle.seq_values.specs.Plain.{plain, plains, plain_term}
 use Rattle.seq_plan.specs.Plan.{Plan, ask, seq, call, make, give, then, Rules, begun, done, got, told_made}

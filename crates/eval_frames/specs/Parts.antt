@@ -1,12 +1,15 @@
 -- The expressions of a program by their numbers, and what a work goes by.
-use Rattle.std.specs.Prelude.{◌≡◌, ℕ, zero, suc, ◌+◌, Bool, true, false, List, [], ◌∷◌, Option, Some, None}
+use Rattle.std.specs.Prelude.{◌≡◌, ℕ, zero, suc, Bool, true, false, List, Option, Some, None}
 use Rattle.clj_script.specs.Nodes.{at}
 use Rattle.clj_script.specs.Seen.{seen, trees}
 use Rattle.clj_script.specs.Trees.{Expr, literal, word, function_of, defined, local, vector_of, call_of, let_in, if_of, and_of, or_of, lazy_seq, Exprs, no_exprs, more_exprs}
+use Rattle.seq_plan.specs.Nodes.{now, asks_for, no_seq, found}
 use Rattle.seq_plan.specs.Plan.{Plan, Rules}
 use Rattle.seq_values.specs.Model as M
 use Rattle.seq_values.specs.Plain.{plain, plains}
 use Rattle.seq_meaning.specs.Evaluates.{Script, eval}
+use Rattle.seq_values.specs.declared.words.Op.{Op}
+use Rattle.seq_values.specs.declared.words.Op.TheVariants as O
 use Rattle.seq_values.specs.declared.words.Target.{Target}
 use Rattle.seq_values.specs.declared.words.Target.TheVariants as T
 use Rattle.eval_frames.specs.declared.state.Ahead.{Ahead}
@@ -15,6 +18,8 @@ use Rattle.eval_frames.specs.declared.state.Shape.{Shape}
 use Rattle.eval_frames.specs.declared.state.Shape.TheVariants as S
 use Rattle.eval_frames.specs.declared.state.Code.{Code}
 use Rattle.eval_frames.specs.declared.state.Members.{Members}
+use Rattle.eval_frames.specs.declared.state.FoundNow.{FoundNow}
+use Rattle.eval_frames.specs.declared.state.FoundNow.TheVariants as F
 
 -- what a work goes by, over the rules of a language
 abbrev pub script_of : (ℕ → Rules ℕ) → Code → Script ℕ
@@ -80,3 +85,13 @@ IsRuled t = (number : ℕ) → ¬ (t ≡ T.User number)
 abbrev pub is_function : M.Value ℕ → Bool
 is_function (M.function t xs) = true
 is_function _ = false
+
+-- a term that the rules have
+abbrev pub IsRuledTerm : Op → Type 0
+IsRuledTerm op = (number : ℕ) → ¬ (op ≡ O.Body number)
+
+-- what `seq` of a value finds
+abbrev pub FindsNow : FoundNow → M.Value ℕ → Type 0
+FindsNow (F.Now s) v = found v ≡ now (plain s.value)
+FindsNow (F.Asks c) v = found v ≡ asks_for c
+FindsNow F.NoSeq v = found v ≡ no_seq

@@ -1,6 +1,8 @@
 -- How often a work may go on before its end: a number that each silent turn and each own step makes smaller.
 use Rattle.std.specs.Prelude.{ℕ, ◌+◌, ◌*◌, max, sum_by, List, [], ◌∷◌}
 use Rattle.clj_script.specs.Seen.{seen}
+use Rattle.clj_script.specs.declared.program.Top.{Top}
+use Rattle.clj_script.specs.declared.program.Top.TheVariants as T
 use Rattle.clj_script.specs.Trees.{Expr, literal, word, function_of, defined, local, vector_of, call_of, let_in, if_of, and_of, or_of, lazy_seq, Exprs, no_exprs, more_exprs, Program}
 use Rattle.eval_frames.specs.Parts.{tree, to_come}
 use Rattle.eval_frames.specs.declared.state.Code.{Code}
@@ -55,6 +57,13 @@ heaviest p = max (heaviest_function p.functions) (heaviest_of p.bodies)
 abbrev pub step_weight : Code → ℕ
 step_weight code = heaviest (seen code.program) + 4
 
+-- what the work of a form weighs beside its own steps
+abbrev pub form_weight : Code → Top → ℕ
+form_weight code (T.Def name n) = weight (tree code n)
+form_weight code T.Defn = 0
+form_weight code (T.Prn n) = weight (tree code n) + 2
+form_weight code T.Ledger = 0
+
 module _ {S : Type 0} {b : _} (code : Code) where
   abbrev pub frame_weight : Frame S b → ℕ
   frame_weight (F.Rule c) = 2
@@ -80,7 +89,7 @@ module _ {S : Type 0} {b : _} (code : Code) where
   -- An event weighs more than what goes on after it, but for a make, which the room that is left for parts pays.
   abbrev pub event_weight : Event S b → ℕ
   event_weight (E.Went r) = runner_weight r + 1
-  event_weight (E.Asks a) = rest_weight a.rest + 2
+  event_weight (E.Asks a) = rest_weight a.rest + 3
   event_weight (E.Makes kind t maker rest) = rest_weight rest + 1
   event_weight (E.Gives v left) = 0
   event_weight (E.Throws e left) = 0

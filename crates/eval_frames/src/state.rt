@@ -189,9 +189,9 @@ pub struct Runner<R: Rule> {
     pub rest: Rest<R>,
 }
 
-/// A call that was entered, or why it couldn't be.
+/// A work that was entered, by a call or from its beginning, or why it couldn't be.
 #[derive(Drop)]
-pub(crate) enum Entered<R: Rule> {
+pub enum Entered<R: Rule> {
     On(Runner<R>),
     Throws(Thrown),
 }

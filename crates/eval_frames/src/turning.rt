@@ -40,7 +40,12 @@ fn visits<R: Rules>(code: &Code, rule: Stepping<R>, rest: Rest<R>) -> Event<R>
 }
 
 /// A rule asks a part, which takes an own step.
-fn asks<R: Rules>(code: &Code, cell: CellId, asking: Asking<R>, rest: Rest<R>) -> Event<R>
+pub(crate) fn asks<R: Rules>(
+    code: &Code,
+    cell: CellId,
+    asking: Asking<R>,
+    rest: Rest<R>,
+) -> Event<R>
     ensures { Leads (ground R.running R.table code.now) rest.left (ask cell (asking_plan (ground R.running R.table code.now) asking (beneath (ground R.running R.table code.now) rest))) (rest_weight code.now rest) result }
 {
     if rest.left == 0 {

@@ -6,4 +6,6 @@ mod asked;
 #[cfg(test)]
 mod driving;
 #[cfg(test)]
+mod lines;
+#[cfg(test)]
 mod words;

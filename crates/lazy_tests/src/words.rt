@@ -1,19 +1,12 @@
-//! Each word, and each part that it makes.
-use crate::driving::{full, run};
-use lazy_rules::{begin, begin_word, is_lazy_word};
+//! Each word on its happy path and on each error that it has, and each part that it makes.
+use crate::lines::{Row, differing};
 use seq_values::Builtin;
-use std::alloc::Global;
 use std::str;
 use std::test::Fail;
-use turn_lines::{Arg, Elements, Keeper, Record, values_of};
+use turn_lines::Arg;
 
-/// How many elements a chunk of a range or of a vector's seq has.
-const CHUNK: u32 = 32;
-
-/// A word, its arguments, and the lines of its call, of the part that it makes, and of those that this makes one after the other.
-type Row = (Builtin, &'static [Arg], &'static [&'static str]);
-
-const ROWS: [Row; 112] = [
+/// `map`.
+const MAPS: [Row; 13] = [
     (
         Builtin::Map,
         &[Arg::Word(Builtin::Inc), Arg::Range(0, 40)],
@@ -112,6 +105,17 @@ const ROWS: [Row; 112] = [
         &[Arg::Word(Builtin::Plus), Arg::Nil, Arg::Part(7)],
         &["map-n[#fn nil #7]#1, = #1", "seq #7, = nil"],
     ),
+];
+
+#[test]
+fn maps(rt: HostRuntime) -> Result<(), Fail> {
+    let record = differing(rt.alloc(), &MAPS)?;
+    assert_eq!(rt; str::from_utf8(record.bytes()).unwrap_or("no text"), "");
+    Ok(())
+}
+
+/// `filter`, `keep` and `remove`.
+const SIFTS: [Row; 22] = [
     (
         Builtin::Filter,
         &[Arg::Word(Builtin::IsOdd), Arg::Range(0, 40)],
@@ -148,6 +152,7 @@ const ROWS: [Row; 112] = [
         &["filter[#fn \"t\"]#1, = #1", "seq \"t\", "],
     ),
     (Builtin::Filter, &[Arg::Word(Builtin::IsOdd)], &["= #fn"]),
+    (Builtin::Filter, &[Arg::Deepest], &["! depth"]),
     (Builtin::Filter, &[], &["! arity"]),
     (
         Builtin::Filter,
@@ -182,6 +187,7 @@ const ROWS: [Row; 112] = [
         ],
     ),
     (Builtin::Keep, &[Arg::Word(Builtin::IsOdd)], &["= #fn"]),
+    (Builtin::Keep, &[Arg::Deepest], &["! depth"]),
     (Builtin::Keep, &[], &["! arity"]),
     (Builtin::Keep, &[Arg::Nil, Arg::Nil, Arg::Nil], &["! arity"]),
     (
@@ -203,6 +209,7 @@ const ROWS: [Row; 112] = [
         ],
     ),
     (Builtin::Remove, &[Arg::Word(Builtin::IsOdd)], &["= #fn"]),
+    (Builtin::Remove, &[Arg::Deepest], &["! depth"]),
     (Builtin::Remove, &[], &["! arity"]),
     (
         Builtin::Remove,
@@ -210,6 +217,17 @@ const ROWS: [Row; 112] = [
         &["! arity"],
     ),
     (Builtin::Remove, &[Arg::Deepest, Arg::Nil], &["! depth"]),
+];
+
+#[test]
+fn sifts(rt: HostRuntime) -> Result<(), Fail> {
+    let record = differing(rt.alloc(), &SIFTS)?;
+    assert_eq!(rt; str::from_utf8(record.bytes()).unwrap_or("no text"), "");
+    Ok(())
+}
+
+/// `take` and `drop`.
+const COUNTS: [Row; 19] = [
     (
         Builtin::Take,
         &[Arg::Int(2), Arg::Range(0, 40)],
@@ -274,6 +292,17 @@ const ROWS: [Row; 112] = [
         &[Arg::Int(1), Arg::Part(7)],
         &["drop[1 #7]#1, = #1", "seq #7, 1 steps, = {8}"],
     ),
+];
+
+#[test]
+fn takes_and_drops(rt: HostRuntime) -> Result<(), Fail> {
+    let record = differing(rt.alloc(), &COUNTS)?;
+    assert_eq!(rt; str::from_utf8(record.bytes()).unwrap_or("no text"), "");
+    Ok(())
+}
+
+/// `take-while` and `drop-while`.
+const WHILES: [Row; 14] = [
     (
         Builtin::TakeWhile,
         &[Arg::Word(Builtin::IsOdd), Arg::List(1, 3)],
@@ -298,6 +327,7 @@ const ROWS: [Row; 112] = [
         &["take-while[#fn nil]#1, = #1", "= nil"],
     ),
     (Builtin::TakeWhile, &[Arg::Word(Builtin::IsOdd)], &["= #fn"]),
+    (Builtin::TakeWhile, &[Arg::Deepest], &["! depth"]),
     (Builtin::TakeWhile, &[], &["! arity"]),
     (
         Builtin::TakeWhile,
@@ -320,12 +350,24 @@ const ROWS: [Row; 112] = [
         &["drop-while[#fn #9]#1, = #1", "seq #9, 2 calls, = {10}"],
     ),
     (Builtin::DropWhile, &[Arg::Word(Builtin::IsOdd)], &["= #fn"]),
+    (Builtin::DropWhile, &[Arg::Deepest], &["! depth"]),
     (Builtin::DropWhile, &[], &["! arity"]),
     (
         Builtin::DropWhile,
         &[Arg::Nil, Arg::Nil, Arg::Nil],
         &["! arity"],
     ),
+];
+
+#[test]
+fn takes_and_drops_while(rt: HostRuntime) -> Result<(), Fail> {
+    let record = differing(rt.alloc(), &WHILES)?;
+    assert_eq!(rt; str::from_utf8(record.bytes()).unwrap_or("no text"), "");
+    Ok(())
+}
+
+/// `concat` and `mapcat`.
+const JOINS: [Row; 13] = [
     (Builtin::Concat, &[], &["concat[]#1, = #1", "= nil"]),
     (
         Builtin::Concat,
@@ -393,12 +435,24 @@ const ROWS: [Row; 112] = [
         &["mapcat[#fn nil]#1, = #1", "= nil"],
     ),
     (Builtin::Mapcat, &[Arg::Word(Builtin::Vector)], &["= #fn"]),
+    (Builtin::Mapcat, &[Arg::Deepest], &["! depth"]),
     (Builtin::Mapcat, &[], &["! arity"]),
     (
         Builtin::Mapcat,
         &[Arg::Nil, Arg::Nil, Arg::Nil],
         &["! arity"],
     ),
+];
+
+#[test]
+fn joins(rt: HostRuntime) -> Result<(), Fail> {
+    let record = differing(rt.alloc(), &JOINS)?;
+    assert_eq!(rt; str::from_utf8(record.bytes()).unwrap_or("no text"), "");
+    Ok(())
+}
+
+/// `iterate`, `range`, `repeat` and `cycle`.
+const SERIES: [Row; 25] = [
     (
         Builtin::Iterate,
         &[Arg::Word(Builtin::Inc), Arg::Int(5)],
@@ -496,6 +550,17 @@ const ROWS: [Row; 112] = [
     ),
     (Builtin::Cycle, &[], &["! arity"]),
     (Builtin::Cycle, &[Arg::Nil, Arg::Nil], &["! arity"]),
+];
+
+#[test]
+fn goes_on(rt: HostRuntime) -> Result<(), Fail> {
+    let record = differing(rt.alloc(), &SERIES)?;
+    assert_eq!(rt; str::from_utf8(record.bytes()).unwrap_or("no text"), "");
+    Ok(())
+}
+
+/// `partition-all`, and `cat`.
+const GROUPS: [Row; 12] = [
     (
         Builtin::PartitionAll,
         &[Arg::Int(2), Arg::List(1, 4)],
@@ -544,54 +609,9 @@ const ROWS: [Row; 112] = [
     (Builtin::Cat, &[Arg::Nil], &["! type"]),
 ];
 
-/// The call of a word.
-fn word_line(
-    alloc: Global,
-    word: Builtin,
-    args: &[Arg],
-    record: &mut Record,
-    keeper: &mut Keeper,
-) -> Result<(), Fail> {
-    let args = values_of(alloc, args).map_err(full)?;
-    if !is_lazy_word(word) {
-        return Err(Fail::from("no word of this crate"));
-    }
-    run(
-        alloc,
-        begin_word(word, args.items),
-        record,
-        keeper,
-        Elements::Numbers,
-    )
-}
-
-/// The work of the part that was made last.
-fn part_line(
-    alloc: Global,
-    record: &mut Record,
-    keeper: &mut Keeper,
-    elements: Elements,
-) -> Result<(), Fail> {
-    match keeper.take() {
-        None => Err(Fail::from("no part was made")),
-        Some(part) => run(alloc, begin(part.term, CHUNK), record, keeper, elements),
-    }
-}
-
 #[test]
-fn each_word_goes_on(rt: HostRuntime) -> Result<(), Fail> {
-    let alloc = rt.alloc();
-    for (word, args, lines) in &ROWS {
-        let mut record = Record::new(alloc);
-        let mut keeper = Keeper::new((0, 0));
-        for (at, line) in lines.iter().enumerate() {
-            if at == 0 {
-                word_line(alloc, *word, args, &mut record, &mut keeper)?;
-            } else {
-                part_line(alloc, &mut record, &mut keeper, Elements::Numbers)?;
-            }
-            assert_eq!(rt; str::from_utf8(record.bytes()).unwrap_or("?"), *line);
-        }
-    }
+fn groups(rt: HostRuntime) -> Result<(), Fail> {
+    let record = differing(rt.alloc(), &GROUPS)?;
+    assert_eq!(rt; str::from_utf8(record.bytes()).unwrap_or("no text"), "");
     Ok(())
 }

@@ -1,5 +1,5 @@
 -- Lists of three values and of four.
-use Rattle.std.proofs.Common.{◌≡◌, ◌≢◌, ℕ, ◌+◌, List, [], ◌∷◌, length, drop, refl, ap, sym, ◌∙◌, arith}
+use Rattle.std.proofs.Common.{◌≡◌, ◌+◌, List, [], ◌∷◌, length, drop, ap, ◌∙◌, arith}
 use Rattle.seq_values.specs.declared.value.Value.{Value}
 
 pub three_values : (xs : List Value) (x y z : Value) → length xs ≡ 3 → drop 0 xs ≡ x ∷ drop (0 + 1) xs → drop 1 xs ≡ y ∷ drop (1 + 1) xs → drop 2 xs ≡ z ∷ drop (2 + 1) xs → xs ≡ x ∷ y ∷ z ∷ []

@@ -1,10 +1,10 @@
 -- How the work of a pull ends.
-use Rattle.std.proofs.Common.{◌≡◌, ◌≢◌, ℕ, ◌<◌, List, [], ◌∷◌, length, refl, ap, sym, ◌∙◌, arith}
+use Rattle.std.proofs.Common.{◌≡◌, ◌≢◌, ℕ, List, [], ◌∷◌, length, refl, ap, sym, ◌∙◌}
 use Rattle.seq_base.specs.declared.thrown.Thrown.TheVariants.{Overflow}
 use Rattle.seq_values.specs.Model as M
-use Rattle.seq_values.specs.Plain.{plain, plains}
+use Rattle.seq_values.specs.Plain.{plains}
 use Rattle.seq_values.specs.declared.value.Value.{Value}
-use Rattle.seq_plan.specs.Plan.{Plan, give, throw}
+use Rattle.seq_plan.specs.Plan.{give, throw}
 use Rattle.seq_plan.specs.Nodes.{with_members, with_items, give_value, with_value}
 use Rattle.seq_turns.specs.Making.{Grows, grown, Makes, made}
 use Rattle.seq_turns.specs.declared.made.Grown.{Grown}

@@ -1,9 +1,7 @@
 -- What stages came to, by their turn.
-use Rattle.std.proofs.Common.{◌≡◌, ℕ, List, refl, subst, sym}
-use Rattle.std.specs.Prelude.{IsTrue}
+use Rattle.std.proofs.Common.{ℕ, List, refl}
 use Rattle.seq_base.specs.declared.thrown.Thrown.{Thrown}
 use Rattle.seq_values.specs.Model as M
-use Rattle.seq_values.specs.WellFormedTerms.{is_well_formed_turn}
 use Rattle.seq_values.specs.declared.term.Turn.TheVariants as T
 use Rattle.seq_values.proofs.DepthLemmas.{both}
 use Rattle.seq_turns.specs.declared.proper.Proper.{Proper}

@@ -1,13 +1,13 @@
 -- What stages whose outputs are gathered came to, and that they give few outputs without a turn.
-use Rattle.std.proofs.Common.{◌≡◌, ℕ, zero, suc, ◌+◌, ◌<◌, Bool, true, false, cond, List, [], ◌∷◌, ◌++◌, refl, ap, sym, subst, ◌∙◌, arith}
+use Rattle.std.proofs.Common.{◌≡◌, ℕ, suc, ◌<◌, Bool, true, false, cond, List, [], ◌∷◌, ◌++◌, refl, ap, sym, subst, ◌∙◌, arith}
 use Rattle.seq_base.specs.declared.thrown.Thrown.{Thrown}
 use Rattle.seq_values.specs.Model as M
 use Rattle.seq_values.specs.Model.{◌&◌}
 use Rattle.seq_values.specs.Plain.{plain, plains}
 use Rattle.seq_plan.specs.Plan.{Plan, visit, ask, seq, call, go, make, give, throw, then, plan_of, Loop, enter_from, Round, ends_with, fails, visits, calls_for}
 use Rattle.seq_plan.specs.Nodes.{Found, now, asks_for, no_seq, found, is_nil}
-use Rattle.seq_plan.specs.Stages.{Onward, Sink, reduces, gathers, enter_round}
-use Rattle.seq_turns.specs.Turning.{Silent, arrives, opens, finds}
+use Rattle.seq_plan.specs.Stages.{Onward, reduces, gathers, enter_round}
+use Rattle.seq_turns.specs.Turning.{arrives, opens, finds}
 use Rattle.seq_turns.specs.declared.next.Next.{Next}
 use Rattle.seq_turns.specs.declared.proper.Proper.{Proper}
 use Rattle.seq_turns.proofs.Taking.{joins}
@@ -15,34 +15,50 @@ use Rattle.stage_rows.specs.Table.{stage_round}
 use Rattle.xf_stages.specs.Left.{Course, StageSilent, is_enter_loop, left_out, at_rest}
 use Rattle.xf_stages.specs.declared.state.Stages.{Stages}
 use Rattle.xf_stages.specs.declared.state.AtOut.{AtOut}
-use Rattle.pull_rules.specs.Reducing.{Flows, Gathers, GatheringRests, flowed_node, gathering_node}
+use Rattle.pull_rules.specs.Reducing.{Errand, Flows, Gathers, FlowedRests, IsFlowedAsked, flowed_node}
 use Rattle.pull_rules.specs.declared.flow.Flowed.{Flowed}
 use Rattle.pull_rules.specs.declared.flow.Flowed.TheVariants as F
-use Rattle.pull_rules.specs.declared.flow.Gathering.{Gathering}
-use Rattle.pull_rules.specs.declared.flow.GatheringTurn.{GatheringTurn}
 use Rattle.pull_rules.specs.declared.flow.GatheringTurn.TheVariants as GT
 use Rattle.pull_rules.specs.declared.flow.Outputs.{Outputs}
 use Rattle.pull_rules.specs.declared.flow.Waiting.{Waiting}
 
-module _ (stages : List (M.Value ℕ)) (course : Course) (o : Outputs) where
-  abbrev Reaches : GatheringTurn → Type 0
-  Reaches r = Gathers stages (λ k. course (gathers (plains o.items.items)) k) r
+-- Stages came to this in the midst of an errand, with these outputs behind them.
+pub record Advances (stages : List (M.Value ℕ)) (errand : Errand) (f : Flowed) (o : Outputs) : Type 0 where
+  pub goes : (k : Onward ℕ) → StageSilent (errand k) (flowed_node f (gathers (plains o.items.items)) k)
+  pub asked : IsFlowedAsked f
+  pub rests : FlowedRests stages f
 
-  pub gathers_asks : (n : Next Waiting) → Flows stages course (F.Asks n) → Reaches (GT.Asks (record { state = record { waiting = n.state; outputs = o }; turn = n.turn }))
-  gathers_asks n h = record { goes = λ k. h.goes (gathers (plains o.items.items)) k; asked = h.asked; rests = h.rests }
+pub advances_first : (stages : List (M.Value ℕ)) (course : Course) (f : Flowed) (o : Outputs) → Flows stages course f → Advances stages (λ k. course (gathers (plains o.items.items)) k) f o
+advances_first stages course f o h = record { goes = λ k. h.goes (gathers (plains o.items.items)) k; asked = h.asked; rests = h.rests }
 
-  pub gathers_throw : (why : Thrown) → Flows stages course (F.Throw why) → Reaches (GT.Throw why)
-  gathers_throw why h = record { goes = λ k. h.goes (gathers (plains o.items.items)) k; asked = tt; rests = tt }
+module _ (stages : List (M.Value ℕ)) (errand : Errand) where
+  asks_from : (n : Next Waiting) (o : Outputs) → Advances stages errand (F.Asks n) o → Gathers stages errand (GT.Asks (record { state = record { waiting = n.state; outputs = o }; turn = n.turn }))
+  asks_from n o h = record { goes = h.goes; asked = h.asked; rests = h.rests }
 
-  pub gathers_rest : (s : Stages) → Flows stages course (F.Rest s) → Reaches (GT.Rest s o)
-  gathers_rest s h = record { goes = λ k. h.goes (gathers (plains o.items.items)) k; asked = tt; rests = h.rests }
+  pub advances_asks : (n : Next Waiting) (f : Flowed) (o : Outputs) → f ≡ F.Asks n → Advances stages errand f o → Gathers stages errand (GT.Asks (record { state = record { waiting = n.state; outputs = o }; turn = n.turn }))
+  advances_asks n f o e h = asks_from n o (subst (λ g. Advances stages errand g o) e h)
+
+  throws_from : (why : Thrown) (o : Outputs) → Advances stages errand (F.Throw why) o → Gathers stages errand (GT.Throw why)
+  throws_from why o h = record { goes = h.goes; asked = tt; rests = tt }
+
+  pub advances_throw : (why : Thrown) (f : Flowed) (o : Outputs) → f ≡ F.Throw why → Advances stages errand f o → Gathers stages errand (GT.Throw why)
+  advances_throw why f o e h = throws_from why o (subst (λ g. Advances stages errand g o) e h)
+
+  rests_from : (s : Stages) (o : Outputs) → Advances stages errand (F.Rest s) o → Gathers stages errand (GT.Rest s o)
+  rests_from s o h = record { goes = h.goes; asked = tt; rests = h.rests }
+
+  pub advances_rest : (s : Stages) (f : Flowed) (o : Outputs) → f ≡ F.Rest s → Advances stages errand f o → Gathers stages errand (GT.Rest s o)
+  advances_rest s f o e h = rests_from s o (subst (λ g. Advances stages errand g o) e h)
 
   -- an output is gathered, and the stages go on
-  pub gathers_output : (w : AtOut) (x : Proper) (more : Outputs) (r : GatheringTurn) → plains more.items.items ≡ plains o.items.items ++ plain x.value ∷ [] → Flows stages course (F.Out w x) → Gathers (at_rest w.flow) (λ k. left_out w false (gathers (plains more.items.items)) k) r → Reaches r
-  gathers_output w x more r e h g = record { goes = goes; asked = g.asked; rests = subst (λ s. GatheringRests s r) h.rests g.rests }
+  output_from : (w : AtOut) (x : Proper) (next : Flowed) (o more : Outputs) → plains more.items.items ≡ plains o.items.items ++ plain x.value ∷ [] → Advances stages errand (F.Out w x) o → Flows (at_rest w.flow) (left_out w false) next → Advances stages errand next more
+  output_from w x next o more e h g = record { goes = goes; asked = g.asked; rests = subst (λ s. FlowedRests s next) h.rests g.rests }
     where
-      goes : (k : Onward ℕ) → StageSilent (course (gathers (plains o.items.items)) k) (gathering_node r k)
-      goes k = joins (h.goes (gathers (plains o.items.items)) k) (subst (λ ys. StageSilent (left_out w false (gathers ys) k) (gathering_node r k)) e (g.goes k))
+      goes : (k : Onward ℕ) → StageSilent (errand k) (flowed_node next (gathers (plains more.items.items)) k)
+      goes k = joins (h.goes k) (subst (λ ys. StageSilent (left_out w false (gathers ys) k) (flowed_node next (gathers (plains more.items.items)) k)) e (g.goes (gathers (plains more.items.items)) k))
+
+  pub advances_output : (w : AtOut) (x : Proper) (f next : Flowed) (o more : Outputs) → f ≡ F.Out w x → plains more.items.items ≡ plains o.items.items ++ plain x.value ∷ [] → Advances stages errand f o → Flows (at_rest w.flow) (left_out w false) next → Advances stages errand next more
+  advances_output w x f next o more q e h g = output_from w x next o more e (subst (λ p. Advances stages errand p o) q h) g
 
 -- ## Few outputs come without a turn
 

@@ -1,5 +1,5 @@
 -- Members of a list, as many as it may have.
-use Rattle.std.proofs.Common.{◌≡◌, ℕ, suc, ◌<◌, ◌≤◌, nat_le, true, false, List, length, refl, ap, sym, rules, arith}
+use Rattle.std.proofs.Common.{◌≡◌, ℕ, ◌<◌, ◌≤◌, nat_le, true, false, List, length, refl, ap, sym, rules, arith}
 use Rattle.std.proofs.lemmas.List.{length-map}
 use Rattle.seq_values.specs.Plain.{plain, plains}
 use Rattle.seq_values.specs.declared.value.Value.{Value}

@@ -1,5 +1,5 @@
 -- Turns of a pull.
-use Rattle.std.proofs.Common.{◌≡◌, ◌≢◌, ℕ, zero, suc, ◌+◌, ◌<◌, ◌≤◌, pos, int_le, Bool, true, false, cond, List, [], ◌∷◌, ◌++◌, length, drop, Option, Some, None, refl, ap, sym, subst, ◌∙◌, rules, arith}
+use Rattle.std.proofs.Common.{◌≡◌, ℕ, ◌+◌, ◌<◌, ◌≤◌, pos, int_le, Bool, true, false, cond, List, [], ◌∷◌, ◌++◌, length, drop, Some, None, refl, ap, sym, subst, ◌∙◌, rules, arith}
 use Rattle.std.specs.Prelude.{IsTrue}
 use Rattle.std.proofs.lemmas.List.{length-map}
 use Rattle.seq_base.specs.declared.thrown.Thrown.{Thrown}
@@ -13,13 +13,12 @@ use Rattle.seq_values.specs.WellFormedTerms.{takes, is_pull, are_states, is_well
 use Rattle.seq_values.specs.declared.term.Term.{Term}
 use Rattle.seq_values.specs.declared.value.Value.{Value}
 use Rattle.seq_values.specs.declared.words.Kind.TheVariants.{Lazy}
-use Rattle.seq_values.specs.declared.words.Op.{Op}
 use Rattle.seq_values.specs.declared.words.Op.TheVariants as O
 use Rattle.seq_values.proofs.DepthLemmas.{and_parts}
 use Rattle.seq_values.proofs.WellFormedLemmas.{list_keeps}
 use Rattle.seq_plan.specs.Plan.{Plan, visit, seq, make, give, throw, then, go, pull_from}
-use Rattle.seq_plan.specs.Nodes.{first_of, rest_of, with_members, make_term, give_value, with_items}
-use Rattle.seq_plan.specs.Stages.{Sink, gathers, Onward, outputs_of, with_stages, fresh, enter, complete}
+use Rattle.seq_plan.specs.Nodes.{first_of, rest_of, with_members, make_term}
+use Rattle.seq_plan.specs.Stages.{Sink, gathers, Onward, outputs_of, with_stages, fresh, enter}
 use Rattle.seq_plan.specs.Turns.{node}
 use Rattle.seq_plan.specs.Cursors.{stands}
 use Rattle.seq_plan.specs.declared.cursor.Cursor.{Cursor}
@@ -36,13 +35,13 @@ use Rattle.seq_turns.specs.declared.places.Rest.{Rest}
 use Rattle.seq_turns.specs.declared.proper.Gathered.{Gathered}
 use Rattle.seq_turns.specs.Seen.{rested}
 use Rattle.seq_turns.proofs.Taking.{some_cursor}
-use Rattle.stage_rows.specs.Table.{kept, replaced, make_pull, pull_round, pulled, last_outputs, after_pull, pull_term}
+use Rattle.stage_rows.specs.Table.{kept, replaced, make_pull, pulled, after_pull, pull_term}
 use Rattle.xf_stages.specs.Left.{stages_in, states_in}
-use Rattle.xf_stages.specs.Opening.{Opens, AreFresh, AddsStates, seen_kept, all_kept, kept_in}
+use Rattle.xf_stages.specs.Opening.{Opens, AreFresh, AddsStates, seen_kept, kept_in}
 use Rattle.xf_stages.specs.declared.state.Opened.TheVariants as D
 use Rattle.xf_stages.specs.declared.state.Stages.{Stages}
 use Rattle.pull_rules.specs.Kept.{IsThrough}
-use Rattle.pull_rules.specs.Left.{left_part, left_seq, left_step, left_stages, pull_at, pull_ends, pull_stops, pull_on, pull_over, Takes}
+use Rattle.pull_rules.specs.Left.{left_part, left_seq, left_step, pull_at, pull_ends, pull_stops, pull_on, pull_over, Takes}
 use Rattle.pull_rules.specs.Reducing.{Errand, Gathers, IsAsked, IsGatheringAsked, left_gathering, gathering_node, gathering_stages, waiting_for, waiting_stages}
 use Rattle.pull_rules.specs.Through.{TurnThrough}
 use Rattle.pull_rules.specs.declared.flow.Gathering.{Gathering}

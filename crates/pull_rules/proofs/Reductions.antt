@@ -1,21 +1,20 @@
 -- What a reduction came to, by what its stages came to.
-use Rattle.std.proofs.Common.{◌≡◌, ℕ, Bool, List, [], ◌∷◌, refl, ap, sym, subst, ◌∙◌}
-use Rattle.std.specs.Prelude.{IsTrue}
+use Rattle.std.proofs.Common.{◌≡◌, ℕ, Bool, List, [], ◌∷◌, refl, sym, subst}
 use Rattle.seq_base.specs.declared.thrown.Thrown.{Thrown}
 use Rattle.seq_values.specs.Model as M
 use Rattle.seq_values.specs.Plain.{plain, plains}
 use Rattle.seq_values.specs.declared.term.Turn.TheVariants as T
 use Rattle.seq_values.specs.declared.value.Value.{Value}
 use Rattle.seq_values.proofs.DepthLemmas.{both}
-use Rattle.seq_plan.specs.Plan.{Plan, call}
-use Rattle.seq_plan.specs.Stages.{Onward, reduces, is_reduced, unwrapped}
+use Rattle.seq_plan.specs.Plan.{call}
+use Rattle.seq_plan.specs.Stages.{reduces, is_reduced, unwrapped}
 use Rattle.seq_turns.specs.declared.next.Next.{Next}
 use Rattle.seq_turns.specs.declared.proper.Proper.{Proper}
 use Rattle.seq_turns.specs.declared.proper.ProperList.{ProperList}
 use Rattle.xf_stages.specs.Left.{Course, at_rest, left_out, StageSilent}
 use Rattle.xf_stages.specs.declared.state.Stages.{Stages}
 use Rattle.xf_stages.specs.declared.state.AtOut.{AtOut}
-use Rattle.pull_rules.specs.Reducing.{Flows, Runs, reduction_node}
+use Rattle.pull_rules.specs.Reducing.{Flows, Runs}
 use Rattle.pull_rules.specs.declared.flow.Flowed.TheVariants as F
 use Rattle.pull_rules.specs.declared.flow.Waiting.{Waiting}
 use Rattle.pull_rules.specs.declared.flow.Reduction.TheVariants as R

@@ -1,10 +1,10 @@
 -- How a turn of this crate's rules takes a node of each plan that may be passed on to it.
 use Rattle.std.specs.declared.result.Result.{Result}
-use Rattle.std.proofs.Common.{◌≡◌, ℕ, Bool, true, Ok, Err, IfOk, List, [], ◌∷◌, refl, ap, sym, ◌∙◌}
+use Rattle.std.proofs.Common.{◌≡◌, ℕ, true, IfOk, List, refl, ap, ◌∙◌}
 use Rattle.seq_values.specs.Model as M
 use Rattle.seq_values.specs.Plain.{plain, plains}
 use Rattle.seq_values.specs.declared.value.Value.{Value}
-use Rattle.seq_plan.specs.Plan.{Plan, Loop, enter_from, seq, call, go, give, then, plan_of}
+use Rattle.seq_plan.specs.Plan.{Plan, Loop, enter_from, seq, call, go, then, plan_of}
 use Rattle.seq_plan.specs.Nodes.{found, now}
 use Rattle.seq_turns.specs.Turning.{Silent, arrives, opens, finds}
 use Rattle.seq_turns.specs.declared.next.Next.{Next}

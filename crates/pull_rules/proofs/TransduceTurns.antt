@@ -1,13 +1,12 @@
 -- Turns of `transduce`.
-use Rattle.std.specs.declared.result.Result.{Result}
-use Rattle.std.proofs.Common.{◌≡◌, ℕ, Bool, true, false, IfOk, List, [], ◌∷◌, refl, ap, sym, subst, ◌∙◌}
+use Rattle.std.proofs.Common.{◌≡◌, ℕ, List, [], ◌∷◌, refl, sym, ◌∙◌}
 use Rattle.seq_base.specs.declared.thrown.Thrown.{Thrown}
 use Rattle.seq_values.specs.Model as M
 use Rattle.seq_values.specs.Plain.{plain, plains}
 use Rattle.seq_values.specs.declared.value.Value.{Value}
-use Rattle.seq_plan.specs.Plan.{Plan, call, give, throw, Told}
+use Rattle.seq_plan.specs.Plan.{Plan, call, give, throw}
 use Rattle.seq_plan.specs.Turns.{node}
-use Rattle.seq_plan.specs.Stages.{Onward, reduces, with_stages, fresh, answer_of, enter_each, complete}
+use Rattle.seq_plan.specs.Stages.{reduces, with_stages, enter_each}
 use Rattle.seq_turns.specs.Turning.{arrives}
 use Rattle.seq_turns.specs.declared.next.Next.{Next}
 use Rattle.seq_turns.specs.declared.proper.Proper.{Proper}

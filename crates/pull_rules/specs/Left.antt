@@ -6,7 +6,7 @@ use Rattle.seq_values.specs.Model.{◌&◌}
 use Rattle.seq_values.specs.Plain.{plain, plains}
 use Rattle.seq_plan.specs.Plan.{Plan, seq, call, go, give, throw, Told, begun, done, got, told_made, Loop, enter_from, pull_from}
 use Rattle.seq_plan.specs.Nodes.{first_of, rest_of, give_value, with_items, with_members}
-use Rattle.seq_plan.specs.Stages.{Sink, reduces, gathers, Onward, answer_of, outputs_of, enter, enter_each, complete}
+use Rattle.seq_plan.specs.Stages.{reduces, gathers, Onward, answer_of, outputs_of, enter, enter_each, complete}
 use Rattle.seq_plan.specs.Cursors.{stands}
 use Rattle.seq_turns.specs.Seen.{rested}
 use Rattle.seq_turns.specs.Turning.{Wait, to_begin, a_step, a_seq, a_value, a_part, nothing, Running, TakesTurn}
@@ -28,7 +28,6 @@ use Rattle.pull_rules.specs.declared.state.AtStages.{AtStages}
 use Rattle.pull_rules.specs.declared.state.AtStages.TheVariants as G
 use Rattle.pull_rules.specs.declared.state.AtPart.{AtPart}
 use Rattle.pull_rules.specs.declared.state.AtPart.TheVariants as P
-use Rattle.pull_rules.specs.declared.state.Pulling.{Pulling}
 
 -- ## What goes on after stages
 

@@ -9,10 +9,7 @@ use Rattle.seq_plan.specs.Plan.{Plan, throw, Told, done, got}
 use Rattle.seq_plan.specs.Stages.{Sink, reduces, gathers, Onward, is_reduced, unwrapped, output}
 use Rattle.seq_plan.specs.Turns.{node}
 use Rattle.seq_turns.specs.Turning.{Wait, a_step, a_seq, a_value, awaited, IsStep}
-use Rattle.seq_turns.specs.declared.next.Next.{Next}
 use Rattle.xf_stages.specs.Left.{Course, stages_in, states_in, at_rest, left_call, left_seq, left_step, left_out, StageSilent}
-use Rattle.xf_stages.specs.declared.state.Flow.{Flow}
-use Rattle.xf_stages.specs.declared.state.Stages.{Stages}
 use Rattle.pull_rules.specs.declared.flow.Waiting.{Waiting}
 use Rattle.pull_rules.specs.declared.flow.Waiting.TheVariants as W
 use Rattle.pull_rules.specs.declared.flow.Flowed.{Flowed}

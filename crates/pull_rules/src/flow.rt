@@ -77,6 +77,13 @@ pub(crate) struct Gathering {
     pub(crate) outputs: Outputs,
 }
 
+/// What stages came to, and the outputs before it.
+#[derive(Drop)]
+pub(crate) struct FlowedSoFar {
+    pub(crate) flow: Flowed,
+    pub(crate) outputs: Outputs,
+}
+
 /// A turn of stages whose outputs are gathered.
 #[derive(Drop)]
 pub(crate) enum GatheringTurn {

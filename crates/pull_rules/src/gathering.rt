@@ -1,17 +1,15 @@
 //! Stages run into a list.
-ghost use Rattle.std.specs.Prelude.{◌≡◌, ℕ, [], List, true, IfOk};
+ghost use Rattle.std.specs.Prelude.{◌≡◌, ◌++◌, ◌∷◌, ℕ, [], List, true, false, IfOk};
 ghost use Rattle.pull_rules.specs.Reducing.{Flows, Gathers, left_gathering, waiting_for, waiting_stages};
-ghost use Rattle.pull_rules.specs.declared.flow.Flowed.TheVariants as F;
-ghost use Rattle.pull_rules.specs.declared.flow.GatheringTurn.TheVariants as GT;
 ghost use Rattle.seq_plan.specs.Stages.{gathers, enter, complete};
 ghost use Rattle.seq_plan.specs.Turns.{told};
 ghost use Rattle.seq_turns.specs.Turning.{Fits};
 ghost use Rattle.seq_values.specs.Model as M;
 ghost use Rattle.seq_values.specs.Plain.{plain, plains};
-ghost use Rattle.xf_stages.specs.Left.{Course, stages_in, states_in};
+ghost use Rattle.xf_stages.specs.Left.{Course, stages_in, states_in, at_rest, left_out};
 
-use crate::flow::{Flowed, Gathering, GatheringTurn, Outputs, Waiting};
-use crate::waiting::flowed;
+use crate::flow::{Flowed, FlowedSoFar, Gathering, GatheringTurn, Outputs, Waiting};
+use crate::waiting::{flowed, output_passed};
 use seq_base::Thrown;
 use seq_turns::{Next, Proper};
 use seq_values::Answer;
@@ -59,28 +57,40 @@ impl Gathering {
     }
 }
 
-/// What the stages came to, with the outputs behind them. An output needs no turn.
-#[tactic(auto, using(crate::proofs::Gatherings::gathers_asks, crate::proofs::Gatherings::gathers_throw, crate::proofs::Gatherings::gathers_rest))]
+/// What the stages came to, with the outputs behind them. An output needs no turn: it is gathered, and the stages go on.
 fn gathered(alloc: Global, flow: Flowed, outputs: Outputs) -> Result<GatheringTurn, NoMemory>
     ensures { IfOk result (λ r. (stages : List (M.Value ℕ)) (course : Course) → Flows stages course flow → Gathers stages (λ k. course (gathers (plains outputs.items.items)) k) r) }
 {
-    match flow {
-        Flowed::Asks(next) => Ok(asks(next, outputs)),
-        Flowed::Out { waiting, item } => {
-            let outputs = outputs.and(item)?;
-            let turn = waiting.passed(alloc, false)?;
-            let next = gathered(alloc, flowed(turn), outputs)?;
-            Ok(next)
-        }
-        Flowed::Throw(why) => Ok(stopped(why, outputs)),
-        Flowed::Rest(stages) => Ok(GatheringTurn::Rest { stages, outputs }),
+    let mut here = FlowedSoFar { flow, outputs };
+    loop {
+        let FlowedSoFar { flow, outputs } = here;
+        here = match flow {
+            Flowed::Asks(next) => return Ok(asks(next, outputs)),
+            Flowed::Out { waiting, item } => gathers_one(alloc, waiting, item, outputs)?,
+            Flowed::Throw(why) => return Ok(stopped(why, outputs)),
+            Flowed::Rest(stages) => return Ok(rests(stages, outputs)),
+        };
     }
 }
 
+/// An output is gathered, and the stages go on.
+fn gathers_one(
+    alloc: Global,
+    waiting: AtOut,
+    item: Proper,
+    outputs: Outputs,
+) -> Result<FlowedSoFar, NoMemory>
+    ensures flow { IfOk result (λ r. Flows (at_rest waiting.flow) (left_out waiting false) r.flow) }
+    ensures outputs { IfOk result (λ r. plains r.outputs.items.items ≡ plains outputs.items.items ++ plain item.value ∷ []) }
+{
+    let outputs = outputs.and(item)?;
+    let flow = output_passed(alloc, waiting)?;
+    Ok(FlowedSoFar { flow, outputs })
+}
+
 /// The stages wait.
-#[tactic(auto, using(crate::proofs::Gatherings::gathers_asks))]
 fn asks(next: Next<Waiting>, outputs: Outputs) -> GatheringTurn
-    ensures { (stages : List (M.Value ℕ)) (course : Course) → Flows stages course (F.Asks next) → Gathers stages (λ k. course (gathers (plains outputs.items.items)) k) result }
+    ensures { result ≡ GatheringTurn.Asks (record { state = record { waiting = next.state; outputs = outputs }; turn = next.turn }) }
 {
     let Next {
         state: waiting,
@@ -97,4 +107,11 @@ fn stopped(why: Thrown, outputs: Outputs) -> GatheringTurn
     ensures { result ≡ GatheringTurn.Throw why }
 {
     GatheringTurn::Throw(why)
+}
+
+/// The input or the completion is through.
+fn rests(stages: Stages, outputs: Outputs) -> GatheringTurn
+    ensures { result ≡ GatheringTurn.Rest stages outputs }
+{
+    GatheringTurn::Rest { stages, outputs }
 }

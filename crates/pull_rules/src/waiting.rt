@@ -1,11 +1,11 @@
 //! Stages in the midst of an input: what they came to, and how they go on with an answer.
-ghost use Rattle.std.specs.Prelude.{ℕ, List, IfOk};
+ghost use Rattle.std.specs.Prelude.{ℕ, List, IfOk, false};
 ghost use Rattle.pull_rules.specs.Reducing.{Flows, left_waiting, waiting_for, waiting_stages};
 ghost use Rattle.seq_plan.specs.Turns.{told};
 ghost use Rattle.seq_turns.specs.Turning.{Fits, a_seq, a_value};
 ghost use Rattle.seq_values.specs.Model as M;
 ghost use Rattle.seq_values.specs.Plain.{plain};
-ghost use Rattle.xf_stages.specs.Left.{Course, Goes, at_rest, left_call, left_seq, left_step};
+ghost use Rattle.xf_stages.specs.Left.{Course, Goes, at_rest, left_call, left_seq, left_step, left_out};
 ghost use Rattle.xf_stages.specs.declared.state.StageTurn.TheVariants as T;
 
 use crate::flow::{Flowed, Waiting};
@@ -13,7 +13,7 @@ use seq_turns::{Next, Proper, ProperList, seen_of};
 use seq_values::{Answer, Turn, Value};
 use seq_vector::NoMemory;
 use std::alloc::Global;
-use xf_stages::{AtCall, AtSeq, AtStep, StageTurn};
+use xf_stages::{AtCall, AtOut, AtSeq, AtStep, StageTurn};
 
 /// What a turn of stages is.
 #[tactic(auto, using(crate::proofs::Flowing::flows_out, crate::proofs::Flowing::flows_throw, crate::proofs::Flowing::flows_rest))]
@@ -88,6 +88,14 @@ fn step_taken(alloc: Global, waiting: AtStep) -> Result<Flowed, NoMemory>
     ensures { IfOk result (Flows (at_rest waiting.flow) (left_step waiting)) }
 {
     let turn = waiting.visited(alloc)?;
+    Ok(flowed(turn))
+}
+
+/// An output was gathered.
+pub(crate) fn output_passed(alloc: Global, waiting: AtOut) -> Result<Flowed, NoMemory>
+    ensures { IfOk result (Flows (at_rest waiting.flow) (left_out waiting false)) }
+{
+    let turn = waiting.passed(alloc, false)?;
     Ok(flowed(turn))
 }
 

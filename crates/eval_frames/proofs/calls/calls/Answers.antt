@@ -1,5 +1,4 @@
-use Rattle.std.proofs.Common.{◌≡◌, ◌+◌, refl, sym, ap, subst, ◌∙◌, arith}
-use Rattle.eval_frames.specs.Frames.{ground, beneath}
+use Rattle.eval_frames.specs.Frames.{ground}
 use Rattle.seq_meaning.specs.Trail.{due_call}
 use Rattle.eval_frames.specs.Frames.{script_in}
 use Rattle.eval_frames.proofs.Moving.{tired_moves}

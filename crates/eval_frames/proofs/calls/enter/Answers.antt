@@ -1,4 +1,4 @@
-use Rattle.std.proofs.Common.{◌≡◌, ◌+◌, refl, sym, ap, subst, ◌∙◌, arith}
+use Rattle.std.proofs.Common.{◌+◌, sym, subst}
 use Rattle.eval_frames.specs.Frames.{ground, beneath}
 use Rattle.eval_frames.proofs.Callings.{no_call, enters_throws}
 use Rattle.seq_meaning.specs.Evaluates.{called}

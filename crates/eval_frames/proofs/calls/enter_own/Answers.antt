@@ -1,4 +1,4 @@
-use Rattle.std.proofs.Common.{◌≡◌, ◌+◌, refl, sym, ap, subst, ◌∙◌, arith}
+use Rattle.std.proofs.Common.{refl, arith}
 use Rattle.eval_frames.specs.Frames.{ground, beneath}
 use Rattle.eval_frames.proofs.Callings.{own_none, own_some, own_weight, enters_throws}
 use Rattle.eval_frames.proofs.calls.enter_own.Goals as goal

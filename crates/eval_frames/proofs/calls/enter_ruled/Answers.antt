@@ -1,4 +1,4 @@
-use Rattle.std.proofs.Common.{◌≡◌, ◌+◌, refl, sym, ap, subst, ◌∙◌, arith}
+use Rattle.std.proofs.Common.{refl, sym, ap, ◌∙◌, arith}
 use Rattle.eval_frames.specs.Frames.{ground, beneath}
 use Rattle.seq_plan.specs.Plan.{then}
 use Rattle.eval_frames.proofs.Callings.{ruled_plan}

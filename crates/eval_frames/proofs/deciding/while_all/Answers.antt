@@ -1,4 +1,4 @@
-use Rattle.std.proofs.Common.{◌≡◌, ◌+◌, refl, sym, ap, subst, ◌∙◌, arith}
+use Rattle.std.proofs.Common.{sym, subst, ◌∙◌, arith}
 use Rattle.eval_frames.specs.Frames.{ground, beneath}
 use Rattle.eval_frames.specs.Parts.{Splits, to_come}
 use Rattle.seq_values.specs.Plain.{plain, plains}

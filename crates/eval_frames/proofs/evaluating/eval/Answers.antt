@@ -1,7 +1,7 @@
-use Rattle.std.proofs.Common.{◌≡◌, ◌+◌, refl, sym, ap, subst, ◌∙◌, arith, IfOk, []}
-use Rattle.eval_frames.specs.Frames.{ground, beneath, gathered, waits}
-use Rattle.seq_values.specs.Plain.{plain, plains}
-use Rattle.eval_frames.proofs.Going.{comes_on, comes_same, comes_event, comes_throws}
+use Rattle.std.proofs.Common.{sym, subst, arith, IfOk}
+use Rattle.eval_frames.specs.Frames.{ground, beneath}
+use Rattle.seq_values.specs.Plain.{plains}
+use Rattle.eval_frames.proofs.Going.{comes_same}
 use Rattle.eval_frames.specs.Parts.{tree, HasShape}
 use Rattle.eval_frames.specs.Leads.{ExprComes}
 use Rattle.eval_frames.proofs.Splitting.{weighs_some}

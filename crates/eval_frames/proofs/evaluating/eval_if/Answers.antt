@@ -1,12 +1,9 @@
-use Rattle.std.proofs.Common.{◌≡◌, ◌+◌, refl, sym, ap, subst, ◌∙◌, arith, IfOk, []}
-use Rattle.eval_frames.specs.Frames.{ground, beneath, gathered, waits}
-use Rattle.seq_values.specs.Plain.{plain, plains}
-use Rattle.eval_frames.proofs.Going.{comes_on, comes_same, comes_event, comes_throws}
-use Rattle.eval_frames.specs.Parts.{tree, parts_in, to_come}
-use Rattle.seq_meaning.specs.Evaluates.{eval, evals, while_true, until_true}
-use Rattle.seq_plan.specs.Plan.{call}
-use Rattle.eval_frames.specs.Weights.{weights}
-use Rattle.eval_frames.proofs.Splitting.{first_come, first_locals}
+use Rattle.std.proofs.Common.{ap, arith}
+use Rattle.eval_frames.specs.Frames.{ground, beneath, waits}
+use Rattle.seq_values.specs.Plain.{plains}
+use Rattle.eval_frames.proofs.Going.{comes_on}
+use Rattle.eval_frames.specs.Parts.{tree}
+use Rattle.seq_meaning.specs.Evaluates.{eval}
 use Rattle.eval_frames.specs.declared.state.Frame.TheVariants as F
 use Rattle.eval_frames.proofs.evaluating.eval_if.Goals as goal
 

@@ -1,7 +1,5 @@
-use Rattle.std.proofs.Common.{◌≡◌, ◌+◌, refl, sym, ap, subst, ◌∙◌, arith, IfOk, []}
-use Rattle.eval_frames.specs.Frames.{ground, beneath, gathered, waits}
-use Rattle.seq_values.specs.Plain.{plain, plains}
-use Rattle.eval_frames.proofs.Going.{comes_on, comes_same, comes_event, comes_throws}
+use Rattle.std.proofs.Common.{refl, arith}
+use Rattle.eval_frames.specs.Frames.{ground}
 use Rattle.eval_frames.specs.Frames.{script_in}
 use Rattle.eval_frames.proofs.Moving.{stays}
 use Rattle.eval_frames.proofs.evaluating.eval_lazy.Goals as goal

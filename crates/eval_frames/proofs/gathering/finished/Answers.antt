@@ -1,7 +1,7 @@
-use Rattle.std.proofs.Common.{◌≡◌, ◌+◌, refl, sym, ap, subst, ◌∙◌, arith, IfOk, []}
-use Rattle.eval_frames.specs.Frames.{ground, beneath, gathered, waits}
-use Rattle.seq_values.specs.Plain.{plain, plains}
-use Rattle.eval_frames.proofs.Going.{comes_on, comes_same, comes_event, comes_throws}
+use Rattle.std.proofs.Common.{sym, ap, arith}
+use Rattle.eval_frames.specs.Frames.{ground, beneath, gathered}
+use Rattle.seq_values.specs.Plain.{plains}
+use Rattle.eval_frames.proofs.Going.{comes_same, comes_event}
 use Rattle.eval_frames.proofs.gathering.finished.Goals as goal
 
 pub returns-in-Call : goal.returns-in-Call

@@ -1,7 +1,6 @@
-use Rattle.std.proofs.Common.{◌≡◌, ◌+◌, refl, sym, ap, subst, ◌∙◌, arith, IfOk, []}
-use Rattle.eval_frames.specs.Frames.{ground, beneath, gathered, waits}
-use Rattle.seq_values.specs.Plain.{plain, plains}
-use Rattle.eval_frames.proofs.Going.{comes_on, comes_same, comes_event, comes_throws}
+use Rattle.std.proofs.Common.{sym, ap, ◌∙◌, arith}
+use Rattle.eval_frames.specs.Frames.{ground, beneath}
+use Rattle.eval_frames.proofs.Going.{comes_on, comes_throws}
 use Rattle.seq_turns.specs.Making.{made}
 use Rattle.eval_frames.proofs.Splitting.{vector_goes}
 use Rattle.eval_frames.proofs.gathering.vector_told.Goals as goal

@@ -1,6 +1,5 @@
-use Rattle.std.proofs.Common.{◌≡◌, refl, sym, ap, ◌∙◌}
+use Rattle.std.proofs.Common.{refl, sym, ap, ◌∙◌}
 use Rattle.std.specs.Prelude.{slice_get}
-use Rattle.clj_script.specs.declared.expr.Expr.TheVariants as node
 use Rattle.eval_frames.proofs.Shapes.{node_parts, part_of, part_not, part_none}
 use Rattle.eval_frames.proofs.parts.part_at.Goals as goal
 

@@ -1,4 +1,3 @@
-use Rattle.std.proofs.Common.{◌≡◌, refl, sym, ap, ◌∙◌}
 use Rattle.eval_frames.proofs.Shapes.{shape_none, shape_literal, shape_word, shape_function, shape_defined, shape_local, shape_vector, shape_call, shape_let, shape_if, shape_and, shape_or, shape_lazy}
 use Rattle.eval_frames.proofs.parts.shape_of.Goals as goal
 

@@ -1,6 +1,5 @@
-use Rattle.std.proofs.Common.{◌≡◌, ◌+◌, ◌++◌, refl, sym, ap, subst, ◌∙◌, arith, IfOk, [], cond, true, false}
-use Rattle.eval_frames.specs.Frames.{ground, script_in, beneath}
-use Rattle.seq_values.specs.Plain.{plain, plains}
+use Rattle.std.proofs.Common.{◌+◌, refl, sym, subst, arith, IfOk}
+use Rattle.eval_frames.specs.Frames.{ground, beneath}
 use Rattle.eval_frames.specs.Frames.{now_plan}
 use Rattle.eval_frames.specs.Leads.{Comes}
 use Rattle.eval_frames.specs.Weights.{rest_weight, now_weight}

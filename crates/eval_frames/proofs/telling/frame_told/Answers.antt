@@ -1,7 +1,6 @@
-use Rattle.std.proofs.Common.{◌≡◌, ◌+◌, ◌++◌, refl, sym, ap, subst, ◌∙◌, arith, IfOk, [], cond, true, false}
-use Rattle.eval_frames.specs.Frames.{ground, beneath, gathered, waits, under}
-use Rattle.seq_values.specs.Plain.{plain, plains}
-use Rattle.eval_frames.proofs.Going.{comes_on, comes_same, comes_event, comes_throws}
+use Rattle.std.proofs.Common.{arith}
+use Rattle.eval_frames.specs.Frames.{ground}
+use Rattle.seq_values.specs.Plain.{plain}
 use Rattle.eval_frames.proofs.Tellings.{told_on, told_ok, told_rule}
 use Rattle.eval_frames.proofs.telling.frame_told.Goals as goal
 

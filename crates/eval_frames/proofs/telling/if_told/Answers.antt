@@ -1,10 +1,6 @@
-use Rattle.std.proofs.Common.{◌≡◌, ◌+◌, ◌++◌, refl, sym, ap, subst, ◌∙◌, arith, IfOk, [], cond, true, false}
-use Rattle.eval_frames.specs.Frames.{ground, beneath, gathered, waits, under}
+use Rattle.std.proofs.Common.{refl, arith}
+use Rattle.eval_frames.specs.Frames.{ground, beneath}
 use Rattle.seq_values.specs.Plain.{plain, plains}
-use Rattle.eval_frames.proofs.Going.{comes_on, comes_same, comes_event, comes_throws}
-use Rattle.eval_frames.specs.Parts.{tree, parts_in, to_come}
-use Rattle.seq_meaning.specs.Evaluates.{eval, evals, while_true, until_true}
-use Rattle.seq_plan.specs.Plan.{call}
 use Rattle.seq_plan.specs.Nodes.{is_truthy}
 use Rattle.eval_frames.proofs.Branches.{branch_plan, branch_weight}
 use Rattle.eval_frames.proofs.telling.if_told.Goals as goal

@@ -1,10 +1,9 @@
-use Rattle.std.proofs.Common.{◌≡◌, ◌+◌, ◌++◌, refl, sym, ap, subst, ◌∙◌, arith, IfOk, [], cond, true, false}
-use Rattle.eval_frames.specs.Frames.{ground, beneath, gathered, waits, under}
-use Rattle.seq_values.specs.Plain.{plain, plains}
-use Rattle.eval_frames.proofs.Going.{comes_on, comes_same, comes_event, comes_throws}
-use Rattle.eval_frames.specs.Parts.{tree, parts_in, to_come}
-use Rattle.seq_meaning.specs.Evaluates.{eval, evals, while_true, until_true}
-use Rattle.seq_plan.specs.Plan.{call}
+use Rattle.std.proofs.Common.{ap, arith}
+use Rattle.eval_frames.specs.Frames.{ground, beneath, gathered}
+use Rattle.seq_values.specs.Plain.{plains}
+use Rattle.eval_frames.proofs.Going.{comes_same}
+use Rattle.eval_frames.specs.Parts.{to_come}
+use Rattle.seq_meaning.specs.Evaluates.{evals}
 use Rattle.eval_frames.proofs.telling.part_told.Goals as goal
 
 pub returns : goal.returns

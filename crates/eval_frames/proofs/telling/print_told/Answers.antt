@@ -1,7 +1,5 @@
-use Rattle.std.proofs.Common.{◌≡◌, ◌+◌, ◌++◌, refl, sym, ap, subst, ◌∙◌, arith, IfOk, [], cond, true, false}
-use Rattle.eval_frames.specs.Frames.{ground, beneath, gathered, waits, under}
-use Rattle.seq_values.specs.Plain.{plain, plains}
-use Rattle.eval_frames.proofs.Going.{comes_on, comes_same, comes_event, comes_throws}
+use Rattle.std.proofs.Common.{refl, ap, arith}
+use Rattle.eval_frames.specs.Frames.{ground, beneath}
 use Rattle.seq_plan.specs.Plan.{then}
 use Rattle.eval_frames.proofs.telling.print_told.Goals as goal
 

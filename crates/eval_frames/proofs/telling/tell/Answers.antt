@@ -1,6 +1,6 @@
-use Rattle.std.proofs.Common.{◌≡◌, ◌+◌, ◌++◌, refl, sym, ap, subst, ◌∙◌, arith, IfOk, [], cond, true, false}
-use Rattle.eval_frames.specs.Frames.{ground, script_in, beneath}
-use Rattle.seq_values.specs.Plain.{plain, plains}
+use Rattle.std.proofs.Common.{refl, arith}
+use Rattle.eval_frames.specs.Frames.{ground}
+use Rattle.seq_values.specs.Plain.{plain}
 use Rattle.eval_frames.proofs.Tellings.{popped, ended, none_left}
 use Rattle.eval_frames.proofs.Going.{ok_from}
 use Rattle.eval_frames.proofs.telling.tell.Goals as goal

@@ -1,5 +1,4 @@
-use Rattle.std.proofs.Common.{◌≡◌, ◌+◌, ◌++◌, refl, sym, ap, subst, ◌∙◌, arith, IfOk, [], cond, true, false}
-use Rattle.eval_frames.specs.Frames.{ground, script_in, beneath}
+use Rattle.eval_frames.specs.Frames.{ground}
 use Rattle.seq_values.specs.Plain.{plain, plains}
 use Rattle.eval_frames.proofs.Turnings.{call_above}
 use Rattle.eval_frames.proofs.turning.applies.Goals as goal

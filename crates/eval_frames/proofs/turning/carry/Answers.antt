@@ -1,6 +1,5 @@
-use Rattle.std.proofs.Common.{◌≡◌, ◌+◌, ◌++◌, refl, sym, ap, subst, ◌∙◌, arith, IfOk, [], cond, true, false}
+use Rattle.std.proofs.Common.{refl, sym, ap, arith}
 use Rattle.eval_frames.specs.Frames.{ground, script_in, beneath}
-use Rattle.seq_values.specs.Plain.{plain, plains}
 use Rattle.seq_plan.specs.Plan.{then}
 use Rattle.seq_plan.specs.Turns.{node}
 use Rattle.eval_frames.proofs.Moving.{stands}

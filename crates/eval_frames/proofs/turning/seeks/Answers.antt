@@ -1,6 +1,5 @@
-use Rattle.std.proofs.Common.{◌≡◌, ◌+◌, ◌++◌, refl, sym, ap, subst, ◌∙◌, arith, IfOk, [], cond, true, false}
-use Rattle.eval_frames.specs.Frames.{ground, script_in, beneath}
-use Rattle.seq_values.specs.Plain.{plain, plains}
+use Rattle.std.proofs.Common.{sym, ◌∙◌}
+use Rattle.eval_frames.specs.Frames.{ground, script_in}
 use Rattle.eval_frames.proofs.Moving.{sought_moves, missed_moves}
 use Rattle.eval_frames.proofs.Going.{leads_throws, leads_from}
 use Rattle.eval_frames.proofs.Turnings.{part_found, none_found}

@@ -1,8 +1,4 @@
-use Rattle.std.proofs.Common.{◌≡◌, ◌+◌, ◌++◌, refl, sym, ap, subst, ◌∙◌, arith, IfOk, [], cond, true, false}
-use Rattle.eval_frames.specs.Frames.{ground, script_in, beneath}
-use Rattle.seq_values.specs.Plain.{plain, plains}
-use Rattle.seq_plan.specs.Plan.{then}
-use Rattle.eval_frames.specs.Frames.{ready_left}
+use Rattle.eval_frames.specs.Frames.{ground, beneath}
 use Rattle.eval_frames.proofs.Going.{comes_from}
 use Rattle.eval_frames.proofs.Turnings.{rule_moves}
 use Rattle.eval_frames.proofs.turning.take_turn.Goals as goal

@@ -1,10 +1,8 @@
-use Rattle.std.proofs.Common.{◌≡◌, ◌+◌, ◌++◌, refl, sym, ap, subst, ◌∙◌, arith, IfOk, [], cond, true, false}
-use Rattle.eval_frames.specs.Frames.{ground, script_in, beneath}
-use Rattle.seq_values.specs.Plain.{plain, plains}
-use Rattle.seq_meaning.specs.Trail.{due_visit, due_ask}
+use Rattle.eval_frames.specs.Frames.{ground, script_in}
+use Rattle.seq_meaning.specs.Trail.{due_visit}
 use Rattle.eval_frames.proofs.Moving.{tired_moves}
 use Rattle.eval_frames.proofs.Going.{leads_throws}
-use Rattle.eval_frames.proofs.Turnings.{visit_on, ask_on}
+use Rattle.eval_frames.proofs.Turnings.{visit_on}
 use Rattle.eval_frames.proofs.turning.visits.Goals as goal
 
 pub returns-then-rest-eq0 : goal.returns-then-rest-eq0

@@ -1,0 +1,6 @@
+pub mod Holding
+pub mod Works
+pub mod Keeping
+pub mod Ending
+pub mod Asking
+pub mod Making

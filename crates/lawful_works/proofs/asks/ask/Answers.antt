@@ -1,0 +1,69 @@
+use Rattle.std.proofs.Common.{suc, Some}
+use Rattle.seq_plan.specs.Plan.{ask}
+use Rattle.seq_lawful.proofs.OnRuns.{on_open}
+use Rattle.lawful_works.proofs.Keeping.{good_now, after_claim, demand, governs_on}
+use Rattle.lawful_works.proofs.Asking.{claims_seen, opens_work, asker_stays, others_claim, holds_claim, asker_apart, other_asker}
+use Rattle.lawful_works.proofs.asks.ask.Goals as goal
+
+pub claim-requires-clause-own : goal.claim-requires-clause-own
+claim-requires-clause-own g c =
+    let C = g.C.Cells in
+    let s = c.args.cells.now in
+    let r = c.requires.run in
+    (c.requires.own, on_open r.basis.rules r.basis.program r.basis.limit (C.seen s) c.args.by.now (suc r.left) (ask c.args.id r.after) r.run)
+
+pub claim-requires-clause-keeps : goal.claim-requires-clause-keeps
+claim-requires-clause-keeps g c =
+    let C = g.C.Cells in
+    let s = c.args.cells.now in
+    let r = c.requires.run in
+    λ a b answer f k. demand (C.alone s) (C.leads s) (C.law s) (C.noted s) (C.seen s) (C.held s) r.basis r.governs a b f (λ b is. g.met.C.Cells.alone_free s is b) (after_claim (C.alone s) (C.leads s) (C.law s) (C.noted s) (C.seen s) (C.held s) r.basis r.governs a b f c.args.by.now r.left c.args.id r.after answer c.requires.own r.run k)
+
+pub returns-clause-opened : goal.returns-clause-opened
+returns-clause-opened g c =
+    let C = g.C.Cells in
+    let s = c.args.cells.now in
+    let t = c.claim.new.self in
+    let st = c.claim.ensures.step in
+    let r = c.requires.run in
+    opens_work (C.alone s) (C.leads s) (C.law s) (C.noted s) (C.seen s) (C.seen t) (C.held s) (C.held t) st.0 st.1 st.2 st.4.0 (Some c.args.by.now.claim) c.args.id c.claim.result (good_now (C.alone s) (C.leads s) (C.law s) (C.noted s) (C.seen s) (C.held s) r.basis r.governs st.0 st.1 st.2).1 (asker_apart (C.held s) c.args.by.now c.claim.result c.requires.own c.claim.ensures.fresh) c.claim.ensures.held st.3 st.5
+
+pub returns-clause-refused : goal.returns-clause-refused
+returns-clause-refused g c =
+    let C = g.C.Cells in
+    let s = c.args.cells.now in
+    let t = c.claim.new.self in
+    let st = c.claim.ensures.step in
+    claims_seen (C.alone s) (C.leads s) (C.law s) (C.noted s) (C.seen s) (C.seen t) (C.held s) (C.held t) st.0 st.1 st.2 st.4.0 c.args.by.now c.args.id c.claim.result c.requires.own c.claim.ensures.held c.requires.run st.3 st.5
+
+pub returns-clause-others : goal.returns-clause-others
+returns-clause-others g c =
+    let C = g.C.Cells in
+    let s = c.args.cells.now in
+    let t = c.claim.new.self in
+    let st = c.claim.ensures.step in
+    λ u own n. others_claim (C.alone s) (C.leads s) (C.law s) (C.noted s) (C.seen s) (C.seen t) (C.held s) (C.held t) st.0 st.1 st.2 st.4.0 (Some c.args.by.now.claim) c.args.id c.claim.result u c.claim.ensures.fresh c.claim.ensures.held st.3 own (other_asker c.args.by.now.claim u.claim n)
+
+pub returns-clause-own : goal.returns-clause-own
+returns-clause-own g c =
+    let C = g.C.Cells in
+    let s = c.args.cells.now in
+    let t = c.claim.new.self in
+    let st = c.claim.ensures.step in
+    asker_stays (C.alone s) (C.leads s) (C.law s) (C.noted s) (C.seen s) (C.seen t) (C.held s) (C.held t) st.0 st.1 st.2 st.4.0 c.args.by.now c.args.id c.claim.result c.requires.own c.claim.ensures.fresh c.claim.ensures.held st.3
+
+pub returns-clause-holds : goal.returns-clause-holds
+returns-clause-holds g c =
+    let C = g.C.Cells in
+    let s = c.args.cells.now in
+    let t = c.claim.new.self in
+    let st = c.claim.ensures.step in
+    λ d own. holds_claim (C.alone s) (C.leads s) (C.law s) (C.noted s) (C.seen s) (C.seen t) (C.held s) (C.held t) st.0 st.1 st.2 st.4.0 (Some c.args.by.now.claim) c.args.id c.claim.result d c.claim.ensures.fresh c.claim.ensures.held st.3 own
+
+pub returns-clause-law : goal.returns-clause-law
+returns-clause-law g c =
+    let C = g.C.Cells in
+    let s = c.args.cells.now in
+    let t = c.claim.new.self in
+    let st = c.claim.ensures.step in
+    λ y left k o r. governs_on (C.alone s) (C.leads s) (C.law s) (C.noted s) (C.seen s) (C.held s) y o st.0 st.1 st.2 (C.alone t) (C.law t) (C.noted t) (g.met.C.Cells.same_alone s t c.claim.ensures.same) (g.met.C.Cells.same_law s t c.claim.ensures.same) (λ d e. g.met.C.Cells.noted_one t d e) st.4.1 (after_claim (C.alone s) (C.leads s) (C.law s) (C.noted s) (C.seen s) (C.held s) y o st.0 st.1 st.2 c.args.by.now left c.args.id k c.claim.result c.requires.own r st.3)

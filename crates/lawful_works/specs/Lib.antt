@@ -1,0 +1,3 @@
+pub mod Proper
+pub mod Basis
+pub mod Calls

@@ -1,0 +1,4 @@
+pub mod Binding
+pub mod Folding
+pub mod Kept
+pub mod Leading

@@ -1,0 +1,4 @@
+use Rattle.stage_tests.proofs.driving.stepped.Goals as goal
+
+pub returns : goal.returns
+returns c = c.in_ok-turn.ensures.rests
