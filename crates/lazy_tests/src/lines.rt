@@ -3,6 +3,7 @@ use crate::driving::{full, run};
 use lazy_rules::{begin, begin_word, is_lazy_word};
 use seq_values::Builtin;
 use std::alloc::Global;
+use std::str;
 use std::test::Fail;
 use turn_lines::{Arg, Elements, Keeper, Record, values_of};
 
@@ -81,13 +82,18 @@ fn goes_so(
     Ok(true)
 }
 
-/// What the first row wrote that doesn't go as it says, and nothing where all do.
-pub(crate) fn differing(alloc: Global, rows: &[Row]) -> Result<Record, Fail> {
+/// The line that isn't the one of the row.
+fn another(record: &Record) -> Fail {
+    Fail::from(str::from_utf8(record.bytes()).unwrap_or("no text"))
+}
+
+/// Rules do what the rows say.
+pub(crate) fn rows_hold(alloc: Global, rows: &[Row]) -> Result<(), Fail> {
     for (word, args, lines) in rows {
         let mut record = Record::new(alloc);
         if !goes_so(alloc, *word, args, lines, &mut record)? {
-            return Ok(record);
+            return Err(another(&record));
         }
     }
-    Ok(Record::new(alloc))
+    Ok(())
 }

@@ -21,8 +21,9 @@ fn full(_why: NoMemory) -> Fail {
 /// What the first row did that doesn't do what it says, and nothing where all do.
 fn differing(alloc: Global, rows: &[Row]) -> Result<Line, NoMemory> {
     for (word, args, told, expected) in rows {
-        let line = transcript(alloc, *word, args, told)?;
+        let mut line = transcript(alloc, *word, args, told)?;
         if line.bytes() != expected.as_bytes() {
+            line.append(b" differs")?;
             return Ok(line);
         }
     }
