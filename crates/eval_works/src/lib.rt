@@ -9,4 +9,4 @@ mod state;
 pub use beginning::{begin_work, code_of};
 pub use ends::{end_throw, end_value};
 pub use parts::{claim, look, make_part};
-pub use state::{Asked, Claimed, Halt};
+pub use state::{Asked, Begun, Claimed, Halt};
