@@ -1,5 +1,5 @@
 -- A small language, and how its rules run.
-use Rattle.std.specs.Prelude.{ℕ, Bool, true, List}
+use Rattle.std.specs.Prelude.{ℕ, true, List}
 use Rattle.seq_base.specs.declared.thrown.Thrown.TheVariants.{BadType}
 use Rattle.seq_values.specs.Model as M
 use Rattle.seq_values.specs.Plain.{plain}

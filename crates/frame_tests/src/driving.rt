@@ -1,4 +1,6 @@
-//! Whoever runs the forms of a script, for tests: parts get numbers in order, and none is asked.
+//! Whoever runs the forms of a script, for tests: a part that is made has the first number, and none is asked.
+ghost use Rattle.std.specs.Prelude.{◌≡◌, [], ◌∷◌, ◌++◌, IfOk};
+
 use crate::small_rules::SmallRule;
 use clj_reader::{Forms, read_forms};
 use clj_script::{Program, Top, compile};
@@ -6,7 +8,7 @@ use eval_frames::{Code, Event, Maker, Rest, begin_form, made, run};
 use seq_base::{Thrown, word_of};
 use seq_turns::{Proper, ProperList};
 use seq_values::{CellId, Value};
-use seq_vector::NoMemory;
+use seq_vector::{NoMemory, PVec};
 use std::alloc::Global;
 use std::str;
 use std::test::Fail;
@@ -97,16 +99,31 @@ fn evaluated(alloc: Global, code: &Code, form: Top) -> Result<Ended, Fail> {
     Err(Fail::from("no end"))
 }
 
-/// The values of the forms so far, with one more. A form that threw counts as nil.
-fn with_value(alloc: Global, values: &ProperList, ended: &Ended) -> Result<ProperList, Fail> {
-    let value = match &ended.value {
-        Ok(value) => value.share().map_err(full)?,
-        Err(_) => Proper::nil(),
-    };
-    match values.items.push(alloc, value.value) {
-        Ok(items) => Ok(ProperList { items }),
+/// The items with one more.
+fn with_last(alloc: Global, values: &PVec<Value>, last: Value) -> Result<PVec<Value>, Fail>
+    ensures { IfOk result (λ all. all ≡ values.now ++ last ∷ []) }
+{
+    if values.len() >= 4294967295 {
+        return Err(Fail::from("too many"));
+    }
+    match values.push(alloc, last) {
+        Ok(all) => Ok(all),
         Err(_) => Err(Fail::from("no memory")),
     }
+}
+
+/// What a form gives to those after it: nil where it threw.
+fn given(ended: &Ended) -> Result<Proper, Fail> {
+    match &ended.value {
+        Ok(value) => Ok(value.share().map_err(full)?),
+        Err(_) => Ok(Proper::nil()),
+    }
+}
+
+/// The values of the forms so far, with one more.
+fn with_value(alloc: Global, values: &ProperList, last: Proper) -> Result<ProperList, Fail> {
+    let items = with_last(alloc, &values.items, last.value)?;
+    Ok(ProperList { items })
 }
 
 /// A value as a word: a number, a truth value, nil, how many items a vector has, or its kind.
@@ -138,7 +155,7 @@ fn thrown(alloc: Global, why: Thrown) -> Result<String, Fail> {
     Ok(out)
 }
 
-fn told(alloc: Global, ended: &Ended) -> Result<String, Fail> {
+fn text_of(alloc: Global, ended: &Ended) -> Result<String, Fail> {
     match &ended.value {
         Ok(value) => shown(alloc, &value.value),
         Err(why) => thrown(alloc, *why),
@@ -156,8 +173,9 @@ struct Told {
 /// The next form is evaluated.
 fn form_told(alloc: Global, code: Code, form: Top) -> Result<Told, Fail> {
     let ended = evaluated(alloc, &code, form)?;
-    let text = told(alloc, &ended)?;
-    let values = with_value(alloc, &code.values, &ended)?;
+    let text = text_of(alloc, &ended)?;
+    let last = given(&ended)?;
+    let values = with_value(alloc, &code.values, last)?;
     let Code {
         program,
         processors,

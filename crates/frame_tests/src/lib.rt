@@ -5,5 +5,6 @@
 mod driving;
 #[cfg(test)]
 mod rows;
-#[cfg(test)]
 mod small_rules;
+
+pub use small_rules::SmallRule;

@@ -62,13 +62,7 @@ const ROWS: [(&str, &str, u64); 47] = [
     ("(defn f [] (f)) (prn (f))", "threw steps", 20),
 ];
 
-fn row(
-    rt: &impl Abort,
-    alloc: Global,
-    script: &str,
-    text: &str,
-    steps: u64,
-) -> Result<(), Fail> {
+fn row(rt: &impl Abort, alloc: Global, script: &str, text: &str, steps: u64) -> Result<(), Fail> {
     let (shown, taken) = last_form(alloc, script)?;
     assert_eq!(rt; shown.as_str(), text, "{script}");
     assert_eq!(rt; taken, steps, "steps of {script}");

@@ -18,7 +18,7 @@ use std::alloc::Global;
 
 /// Where a rule stands.
 #[derive(Drop)]
-pub(crate) enum SmallRule {
+pub enum SmallRule {
     Core(RuleState),
     /// A value is to be given as it is.
     Value(Proper),
@@ -44,11 +44,7 @@ fn called(function: FnValue, args: ProperList) -> RuleState
 }
 
 /// The next turn of a rule of the words.
-fn core_next(
-    alloc: Global,
-    rule: RuleState,
-    answer: Answer,
-) -> Result<Next<SmallRule>, NoMemory>
+fn core_next(alloc: Global, rule: RuleState, answer: Answer) -> Result<Next<SmallRule>, NoMemory>
     requires { Fits (core_wait rule.state) answer }
     ensures { IfOk result (λ n. Takes small_runs (core_left rule.state (told answer)) n) }
 {
