@@ -1,0 +1,10 @@
+//! Forms of scripts that are evaluated in frames, over the rules of a small language: what each gives or throws, and the own steps that it takes.
+#![tactic(auto)]
+
+#[cfg(test)]
+mod driving;
+#[cfg(test)]
+mod rows;
+mod small_rules;
+
+pub use small_rules::SmallRule;
