@@ -71,7 +71,7 @@ ahead_same : Agrees ahead.is_ahead ahead.running.rounds
 ahead_same ahead_from xs o = refl
 ahead_same _ xs o = absurd cc
 
-fold_same : Agrees fold.is_enter_loop fold.running.rounds
+fold_same : Agrees fold.running.own fold.running.rounds
 fold_same enter_from xs o = refl
 fold_same _ xs o = absurd cc
 
