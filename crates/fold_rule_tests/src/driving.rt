@@ -28,13 +28,18 @@ fn told(alloc: Global, state: RuleState, answer: Answer) -> Result<Asked, Fail>
     }
 }
 
-/// There was no memory for an answer. The rule is let go.
-fn no_memory(_state: RuleState, why: NoMemory) -> Result<Asked, Fail> {
+/// A value that isn't needed any more. A rule is let go here alone, as there are many forms of it.
+fn let_go<T: Drop>(_value: T) {}
+
+/// There was no memory for an answer.
+fn no_memory(state: RuleState, why: NoMemory) -> Result<Asked, Fail> {
+    let_go(state);
     Err(full(why))
 }
 
 /// The rule ends with what it asked last.
-fn ended(_state: RuleState) -> Result<Option<Asked>, Fail> {
+fn ended(state: RuleState) -> Result<Option<Asked>, Fail> {
+    let_go(state);
     Ok(None)
 }
 
@@ -93,7 +98,8 @@ fn told_value(
     }
 }
 
-fn no_part(_state: RuleState) -> Result<Asked, Fail> {
+fn no_part(state: RuleState) -> Result<Asked, Fail> {
+    let_go(state);
     Err(Fail::from("no part"))
 }
 
@@ -148,11 +154,15 @@ pub(crate) fn run(
     record.turn_over();
     let mut asked = told(alloc, state, Answer::Begin)?;
     for _ in 0..2000 {
-        record.note(&asked.turn).map_err(full)?;
+        if let Err(why) = record.note(&asked.turn) {
+            let_go(asked);
+            return Err(full(why));
+        }
         match answered(alloc, asked, record.made(), keeper, elements)? {
             None => return Ok(()),
             Some(next) => asked = next,
         }
     }
+    let_go(asked);
     Err(Fail::from("no end"))
 }

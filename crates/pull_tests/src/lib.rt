@@ -10,6 +10,8 @@ mod functions;
 #[cfg(test)]
 mod given;
 #[cfg(test)]
+mod inputs;
+#[cfg(test)]
 mod reducing;
 #[cfg(test)]
 mod rows;
