@@ -1,8 +1,8 @@
-ghost use Rattle.std.specs.Prelude.{◌≡◌, ◌↔◌, ◌⊎◌, IfSome, OnOk};
+ghost use Rattle.std.specs.Prelude.{◌≡◌, ◌≢◌, ◌↔◌, ◌⊎◌, IfSome, OnOk};
 ghost use Rattle.std.specs.Io.KnownBytes.{Appends, IsAtEnd, Keeps};
 ghost use Rattle.seq_base.specs.Causes.{Rose};
 ghost use Rattle.cljseq.specs.Checked.{PrintedAs, PrintedPartAs};
-ghost use Rattle.command_line.specs.Asking.{Asks, IsFaulty};
+ghost use Rattle.command_line.specs.Asking.{Asks, IsAsked, IsFaulty};
 ghost use Rattle.command_line.specs.Settings.{texts};
 ghost use Rattle.command_line.specs.declared.given.Asked.{Asked as Request};
 ghost use Rattle.seq_run.specs.Answers.{AppendsPart, Printed, PrintedPart, refusal_line};
@@ -33,6 +33,7 @@ pub fn command<I: Source, O: Sink>(
     out: &mut O,
 ) -> Status
     ensures usage { (result ≡ Status.Usage) ↔ IsFaulty (texts words.now) }
+    ensures asked { result ≢ Status.Usage → IsAsked (texts words.now) }
     ensures unread { result ≡ Status.Usage → Keeps (I.left input.old) (I.left input.new) }
     ensures unwritten { (result ≡ Status.Usage) ⊎ (result ≡ Status.ReadFault) → Keeps (O.written out.old) (O.written out.new) }
 

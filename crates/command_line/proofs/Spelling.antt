@@ -1,5 +1,5 @@
 -- Words are read one setting after the other, in one way.
-use Rattle.std.proofs.Common.{◌≡◌, ◌⊎◌, inl, inr, ℕ, zero, suc, ◌+◌, ◌<◌, Bool, true, false, ◌&&◌, List, [], ◌∷◌, ◌++◌, drop, length, Option, Some, None, refl, ap, sym, subst, ◌∙◌, arith, append_assoc}
+use Rattle.std.proofs.Common.{◌≡◌, ◌⊎◌, inl, inr, ℕ, zero, suc, ◌+◌, ◌<◌, ◌≤◌, Bool, true, false, ◌&&◌, List, [], ◌∷◌, ◌++◌, drop, length, Option, Some, None, refl, ap, sym, subst, ◌∙◌, arith, append_assoc}
 use Rattle.std.specs.Prelude.{if◌then◌else◌, codes, ◌==◌, String}
 use Rattle.std.specs.List.{position}
 use Rattle.std.specs.Str.{bytes_eq}
@@ -9,7 +9,7 @@ use Rattle.command_line.specs.declared.setting.Setting.{Setting}
 use Rattle.command_line.specs.declared.given.Asked.{Asked}
 use Rattle.command_line.specs.declared.given.Given.{Given}
 use Rattle.command_line.specs.Settings.{Text, texts, before, first_of, valued_of, apart_of, named_number}
-use Rattle.command_line.specs.Asking.{Spells, spells_none, spells_more, Asks, IsFaulty, OneRequest, Holds, IsUnfit, none_twice, all_built, request_of}
+use Rattle.command_line.specs.Asking.{Spells, spells_none, spells_more, Asks, IsFaulty, OneRequest, BareNameRuns, Holds, IsUnfit, none_twice, all_built, request_of}
 
 same_pair : (s t : Setting) (r q : List Text) → ◌≡◌ {A = Option (Setting × List Text)} (Some (s, r)) (Some (t, q)) → (s ≡ t) × (r ≡ q)
 same_pair s t r q e = let p : ◌≡◌ {A = Setting × List Text} (s, r) (t, q) = cc in (ap (λ (x : Setting × List Text). x.0) p, ap (λ (x : Setting × List Text). x.1) p)
@@ -24,6 +24,14 @@ spelled_once words other all more e (spells_more {rest = r} {s = s} {more = m} f
 
 pub one_request : OneRequest
 one_request words a b p q = p.request ∙ (ap request_of (spelled_once _ _ p.settings q.settings refl p.spelled q.spelled) ∙ sym q.request)
+
+nothing_behind : (words : List Text) → length words ≤ 1 → drop 1 words ≡ []
+nothing_behind [] b = refl
+nothing_behind (w ∷ []) b = refl
+nothing_behind (w ∷ v ∷ ws) b = absurd (omega (arith, b))
+
+pub bare_name_runs : BareNameRuns
+bare_name_runs words b = record { settings = []; spelled = subst (λ w. Spells w []) (sym (nothing_behind words b)) spells_none; once = refl; built = refl; request = refl }
 
 -- so many settings were read, and the rest of the words is left
 pub record Reads (start rest : List Text) (given : Given) : Type 0 where

@@ -1,5 +1,5 @@
 -- What the words of a command line ask for, of what the program does today: to run the script, without workers, or to check it.
-use Rattle.std.specs.Prelude.{◌≡◌, ℕ, nat_eq, Bool, true, false, not, ◌&&◌, ◌||◌, if◌then◌else◌, List, [], ◌∷◌, ◌++◌, drop, Some}
+use Rattle.std.specs.Prelude.{◌≡◌, ℕ, nat_eq, ◌≤◌, Bool, true, false, not, ◌&&◌, ◌||◌, if◌then◌else◌, List, [], ◌∷◌, ◌++◌, drop, length, Some}
 use Rattle.command_line.specs.declared.setting.Setting.{Setting}
 use Rattle.command_line.specs.declared.setting.Setting.TheVariants.{Check, Generate, Workers, Processors, Cells, Steps}
 use Rattle.command_line.specs.declared.given.Asked.{Asked}
@@ -56,6 +56,15 @@ IsFaulty words = (asked : Asked) → ¬ (Asks words asked)
 
 abbrev pub OneRequest : Type 0
 OneRequest = (words : List Text) (a b : Asked) → Asks words a → Asks words b → a ≡ b
+
+-- the words ask for something
+pub record IsAsked (words : List Text) : Type 0 where
+  pub request : Asked
+  pub asks : Asks words request
+
+-- the program's name alone runs the script
+abbrev pub BareNameRuns : Type 0
+BareNameRuns = (words : List Text) → length words ≤ 1 → Asks words A.Run
 
 -- these settings were given, none of them twice, and all of them are built
 pub record Holds (given : Given) (all : List Setting) : Type 0 where

@@ -8,7 +8,7 @@ mod setting;
 
 pub use asking::asked;
 pub use given::Asked;
-pub use laws::law_one_request;
+pub use laws::{law_bare_name_runs, law_one_request};
 pub use setting::Setting;
 
 #[cfg(test)]

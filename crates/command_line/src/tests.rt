@@ -1,4 +1,4 @@
-use crate::{Asked, asked, law_one_request};
+use crate::{Asked, asked, law_bare_name_runs, law_one_request};
 use std::alloc::Global;
 use std::test::Fail;
 
@@ -14,6 +14,7 @@ fn behind(alloc: Global, words: &[&str]) -> Result<Option<Asked>, Fail> {
 #[test]
 fn words(rt: HostRuntime) -> Result<(), Fail> {
     law_one_request();
+    law_bare_name_runs();
     let rows: [(&[&str], Option<Asked>); 22] = [
         (&[], Some(Asked::Run)),
         (&["--check"], Some(Asked::Check)),

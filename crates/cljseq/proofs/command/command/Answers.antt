@@ -4,6 +4,9 @@ use Rattle.command_line.proofs.Spelling.{one_request}
 use Rattle.cljseq.specs.Checked.{PrintedAs, PrintedPartAs}
 use Rattle.cljseq.proofs.command.command.Goals as goal
 
+pub returns-in-Some-clause-asked : goal.returns-in-Some-clause-asked
+returns-in-Some-clause-asked g c = λ n. record { request = c.in-Some.request; asks = c.in-Some.ensures }
+
 pub returns-in-Some-clause-answered : goal.returns-in-Some-clause-answered
 returns-in-Some-clause-answered g c = λ request asks either.
     subst (λ r. IfSome (g.I.Source.left c.args.input.now) (λ text. PrintedAs r text c.answer.result (g.O.Sink.written c.args.out.now) (g.O.Sink.written c.answer.new.out)))
