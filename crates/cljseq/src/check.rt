@@ -1,27 +1,27 @@
-//! A script that is looked at, and isn't run.
+//! From a script's text to its program, and the line of a script that is looked at alone.
 ghost use Rattle.std.specs.Prelude.{◌≡◌, ◌≤◌, IfOk, OnOk};
 ghost use Rattle.std.specs.Io.KnownBytes.{Appends};
+ghost use Rattle.clj_script.specs.Seen.{seen};
+ghost use Rattle.cljseq.specs.Answers.{MeansText, RefusesText, refusal_at};
 ghost use Rattle.seq_base.specs.Causes.{Rose};
-ghost use Rattle.cljseq.specs.Checked.{Checked, forms_line};
-ghost use Rattle.seq_run.specs.Answers.{AppendsPart, refusal_line};
+ghost use Rattle.seq_run.specs.Lines.{AppendsPart};
 ghost use Rattle.seq_run.specs.declared.script.Refusal.{Refusal as Refused};
-ghost use Rattle.seq_run.specs.declared.status.Status.TheVariants.{Done, ScriptRefused};
+ghost use Rattle.seq_table.specs.Answers.{forms_line};
 
 use clj_reader::read_forms;
-use clj_script::compile;
+use clj_script::{Program, compile};
 use seq_base::{Sink, WriteStop, write_whole};
 use seq_run::ScriptStop;
 use std::alloc::Global;
 
-/// How many forms a text has, or its refusal: that of the reader, else the least of the compiler.
-pub fn check_script(alloc: Global, text: &[u8]) -> Result<u32, ScriptStop>
-    ensures forms { IfOk result (λ count. Checked text.now Done (forms_line count)) }
-    ensures refused { (r : Refused) → result ≡ Err (ScriptStop.Refused r)
-        → Checked text.now ScriptRefused (refusal_line r.number r.place) }
+/// The program of a text, or its refusal: that of the reader, else the least of the compiler.
+pub fn read_program(alloc: Global, text: &[u8]) -> Result<Program, ScriptStop>
+    ensures program { IfOk result (λ program. MeansText text.now (seen program)) }
+    ensures refused { (r : Refused) → result ≡ Err (ScriptStop.Refused r) → RefusesText text.now (refusal_at r.number r.place) }
 {
     let forms = read_forms(alloc, text)?;
     let program = compile(alloc, &forms)?;
-    Ok(program.tops())
+    Ok(program)
 }
 
 /// Writes how many forms there are.

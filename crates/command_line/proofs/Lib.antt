@@ -1,3 +1,10 @@
-pub mod Spelling
 pub mod Fitting
 pub mod Numbers
+pub mod Spelling
+pub mod Names
+pub mod Lexing
+pub mod Walking
+pub mod Rows
+pub mod Agreeing
+pub mod Passing
+pub mod Answering

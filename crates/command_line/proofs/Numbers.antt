@@ -1,5 +1,5 @@
 -- Digits one by one.
-use Rattle.std.proofs.Common.{◌≡◌, ℕ, zero, suc, ◌+◌, ◌*◌, ◌-◌, ◌<◌, ◌≤◌, Bool, true, false, List, [], ◌∷◌, drop, length, Option, Some, None, refl, ap, sym, ◌∙◌, arith, add-one}
+use Rattle.std.proofs.Common.{◌≡◌, ℕ, zero, suc, ◌+◌, ◌*◌, ◌-◌, ◌≤◌, Bool, true, false, [], ◌∷◌, drop, length, Some, None, refl, ap, sym, ◌∙◌, arith, add-one}
 use Rattle.std.specs.Prelude.{if◌then◌else◌, slice_get}
 use Rattle.command_line.specs.Settings.{Text, is_digit, value_from}
 

@@ -1,2 +1,4 @@
 pub mod Settings
 pub mod Asking
+pub mod Line
+pub mod Reading

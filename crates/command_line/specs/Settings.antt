@@ -1,5 +1,5 @@
 -- The settings that words spell: `--check`, or a name with a number, as `--name number` or `--name=number`.
-use Rattle.std.specs.Prelude.{ℕ, ◌+◌, ◌*◌, ◌-◌, ◌==◌, Bool, ◌&&◌, nat_le, if◌then◌else◌, List, [], ◌∷◌, map, length, take, drop, Option, Some, None, option_and_then, codes, string_bytes, String}
+use Rattle.std.specs.Prelude.{ℕ, ◌+◌, ◌*◌, ◌-◌, ◌==◌, Bool, ◌&&◌, nat_le, if◌then◌else◌, List, [], ◌∷◌, map, length, take, drop, Option, Some, None, option_and_then, option_map, codes, string_bytes, String}
 use Rattle.std.specs.List.{position}
 use Rattle.std.specs.Str.{bytes_eq}
 use Rattle.command_line.specs.declared.setting.Setting.{Setting}
@@ -28,17 +28,18 @@ value_from n (b ∷ bs) = if is_digit b then value_from (10 * n + (b - 48)) bs e
 abbrev pub number_by : Text → Option ℕ
 number_by t = if nat_le 1 (length t) && nat_le (length t) 10 then value_from 0 t else None
 
-abbrev pub in_range : ℕ → ℕ → ℕ → Setting → Option Setting
-in_range least most n s = if nat_le least n && nat_le n most then Some s else None
+-- the number, where it is from the least to the most
+abbrev pub in_range : ℕ → ℕ → ℕ → Option ℕ
+in_range least most n = if nat_le least n && nat_le n most then Some n else None
 
 -- the setting of this name, with a number in its range
 abbrev pub named_by : Text → ℕ → Option Setting
 named_by name n =
-    if bytes_eq name (codes "--generate") then in_range 1 1000 n (Generate n)
-    else (if bytes_eq name (codes "--workers") then in_range 0 64 n (Workers n)
-    else (if bytes_eq name (codes "--processors") then in_range 1 64 n (Processors n)
-    else (if bytes_eq name (codes "--cells") then in_range 1 1048576 n (Cells n)
-    else (if bytes_eq name (codes "--steps") then in_range 1 16777216 n (Steps n)
+    if bytes_eq name (codes "--generate") then option_map Generate (in_range 1 1000 n)
+    else (if bytes_eq name (codes "--workers") then option_map Workers (in_range 0 64 n)
+    else (if bytes_eq name (codes "--processors") then option_map Processors (in_range 1 64 n)
+    else (if bytes_eq name (codes "--cells") then option_map Cells (in_range 1 1048576 n)
+    else (if bytes_eq name (codes "--steps") then option_map Steps (in_range 1 16777216 n)
     else None))))
 
 abbrev pub named_number : Text → Text → Option Setting

@@ -4,10 +4,11 @@
 mod asking;
 mod given;
 mod laws;
+mod line;
 mod setting;
 
 pub use asking::asked;
-pub use given::Asked;
+pub use given::{Options, Request};
 pub use laws::{law_bare_name_runs, law_one_request};
 pub use setting::Setting;
 

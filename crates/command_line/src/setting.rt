@@ -1,7 +1,6 @@
-//! One setting, as the first words of a list spell it.
-ghost use Rattle.std.specs.Prelude.{◌≡◌, ◌==◌, ◌≤◌, ◌∷◌, length, option_map};
-ghost use Rattle.std.specs.List.{position};
-ghost use Rattle.command_line.specs.Settings.{apart_of, before, first_of, in_range, named_by, named_number, number_by, texts, value_from};
+//! The settings of a command line, and their numbers.
+ghost use Rattle.std.specs.Prelude.{◌≡◌, ◌≤◌, length, option_and_then};
+ghost use Rattle.command_line.specs.Settings.{in_range, number_by, value_from};
 
 /// A setting of the command line.
 #[derive(Clone, Copy, Debug, PartialEq, Eq)]
@@ -9,102 +8,30 @@ pub enum Setting {
     /// `--check`: the script is read and compiled, and isn't run.
     Check,
     /// `--generate N`: a script that is made from a number.
-    Generate(u64),
+    Generate(u32),
     /// `--workers W`.
-    Workers(u64),
+    Workers(u32),
     /// `--processors P`.
-    Processors(u64),
+    Processors(u32),
     /// `--cells N`: the cell limit.
-    Cells(u64),
+    Cells(u32),
     /// `--steps N`: the limit of own steps.
-    Steps(u64),
+    Steps(u32),
 }
 
-/// The setting that the first words spell, with the words behind it. `None` exactly where they spell none.
-pub(crate) fn first_setting(words: &[String]) -> Option<(Setting, &[String])>
-    ensures { option_map (λ p. (p.0, texts p.1.now)) result ≡ first_of (texts words.now) }
+/// The number that a text spells, where it is in the range.
+pub(crate) fn number_in(text: &str, least: u32, most: u32) -> Option<u32>
+    ensures { result ≡ option_and_then (in_range least most) (number_by text.now) }
 {
-    match words {
-        [] => None,
-        [word, rest @ ..] => setting_in(word.as_bytes(), rest),
-    }
+    within(least, most, number_of(text.as_bytes())?)
 }
 
-/// The setting that a word spells, maybe with the word behind it.
-fn setting_in<'a>(word: &[u8], rest: &'a [String]) -> Option<(Setting, &'a [String])>
-    ensures { option_map (λ p. (p.0, texts p.1.now)) result ≡ first_of (word.now ∷ texts rest.now) }
+/// The number, where it is in the range.
+fn within(least: u32, most: u32, number: u64) -> Option<u32>
+    ensures { result ≡ in_range least most number }
 {
-    if word == b"--check".as_slice() {
-        return Some((Setting::Check, rest));
-    }
-    match equals_at(word) {
-        Some(at) => with_rest(setting_of(&word[..at], &word[at + 1..]), rest),
-        None => apart(word, rest),
-    }
-}
-
-/// The setting of a name whose value is the next word.
-fn apart<'a>(name: &[u8], words: &'a [String]) -> Option<(Setting, &'a [String])>
-    ensures { option_map (λ p. (p.0, texts p.1.now)) result ≡ apart_of name.now (texts words.now) }
-{
-    match words {
-        [] => None,
-        [value, rest @ ..] => with_rest(setting_of(name, value.as_bytes()), rest),
-    }
-}
-
-/// A setting, if there is one, with the words behind it.
-fn with_rest(setting: Option<Setting>, rest: &[String]) -> Option<(Setting, &[String])>
-    ensures { option_map (λ p. (p.0, texts p.1.now)) result ≡ before (texts rest.now) setting }
-{
-    match setting {
-        Some(setting) => Some((setting, rest)),
-        None => None,
-    }
-}
-
-/// The place of the first `=`.
-fn equals_at(word: &[u8]) -> Option<usize>
-    ensures { result ≡ position (λ b. b == 61) word.now }
-{
-    word.iter().position(|byte| *byte == b'=')
-}
-
-/// The setting of a name and a value, both as they are written.
-fn setting_of(name: &[u8], value: &[u8]) -> Option<Setting>
-    ensures { result ≡ named_number name.now value.now }
-{
-    match number_of(value) {
-        Some(number) => named(name, number),
-        None => None,
-    }
-}
-
-/// The setting of this name with a number in its range.
-fn named(name: &[u8], number: u64) -> Option<Setting>
-    ensures { result ≡ named_by name.now number }
-{
-    if name == b"--generate".as_slice() {
-        within(1, 1000, number, Setting::Generate(number))
-    } else if name == b"--workers".as_slice() {
-        within(0, 64, number, Setting::Workers(number))
-    } else if name == b"--processors".as_slice() {
-        within(1, 64, number, Setting::Processors(number))
-    } else if name == b"--cells".as_slice() {
-        within(1, 1_048_576, number, Setting::Cells(number))
-    } else if name == b"--steps".as_slice() {
-        within(1, 16_777_216, number, Setting::Steps(number))
-    } else {
-        None
-    }
-}
-
-/// The setting, where its number is in the range.
-fn within(least: u64, most: u64, number: u64, setting: Setting) -> Option<Setting>
-    ensures { result ≡ in_range least most number setting }
-{
-    if least <= number && number <= most {
-        Some(setting)
+    if least as u64 <= number && number <= most as u64 {
+        Some(number as u32)
     } else {
         None
     }

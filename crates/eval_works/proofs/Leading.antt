@@ -1,10 +1,10 @@
 -- A work's run goes on as the work itself does, and by what a part shows.
-use Rattle.std.proofs.Common.{◌≡◌, ℕ, suc, ◌<◌, List, Option, Some, Result, Ok, Err, refl, ap, sym, subst, ◌∙◌}
-use Rattle.std.specs.Prelude.{IfOk, IfErr, true}
+use Rattle.std.proofs.Common.{◌≡◌, ℕ, suc, List, Result, Ok, Err, refl, ap, sym, subst}
+use Rattle.std.specs.Prelude.{IfOk, IfErr}
 use Rattle.seq_values.specs.Model.{Value}
 use Rattle.seq_values.specs.Plain.{plain}
 use Rattle.clj_script.specs.Seen.{seen}
-use Rattle.seq_plan.specs.Plan.{Plan, ask, give, throw}
+use Rattle.seq_plan.specs.Plan.{Plan, give, throw}
 use Rattle.seq_meaning.specs.Evaluates.{Script}
 use Rattle.seq_meaning.specs.Trail.{Trail}
 use Rattle.seq_lawful.specs.Runs.{script_in}
@@ -16,7 +16,6 @@ use Rattle.cell_book.specs.declared.answers.MakeRefusal.TheVariants as M
 use Rattle.cell_book.specs.declared.answers.ClaimRefusal.{ClaimRefusal}
 use Rattle.cell_book.specs.declared.answers.ClaimRefusal.TheVariants as C
 use Rattle.cell_book.specs.Account.{Duty}
-use Rattle.cell_book.specs.Steps.{shown}
 use Rattle.cell_book.specs.Glimpses.{Glimpse, SeesSpent, SeesGaveUp}
 use Rattle.eval_frames.specs.Frames as F
 use Rattle.eval_frames.specs.Frames.{Ground, beneath, asking_plan, asker_plan}
@@ -25,13 +24,12 @@ use Rattle.eval_frames.specs.declared.state.Asker.{Asker}
 use Rattle.eval_frames.specs.declared.state.Event.{Event}
 use Rattle.eval_frames.specs.declared.state.Event.TheVariants as E
 use Rattle.lawful_works.specs.Basis.{Basis, RunsTo, StaysOn}
-use Rattle.lawful_works.specs.Calls.{GoesOn, Looked, Refused}
+use Rattle.lawful_works.specs.Calls.{Looked, Refused}
 use Rattle.eval_works.specs.declared.state.Asked.{Asked}
 use Rattle.eval_works.specs.declared.state.Asked.TheVariants as A
 use Rattle.eval_works.specs.declared.state.Claimed.{Claimed}
 use Rattle.eval_works.specs.declared.state.Claimed.TheVariants as K
 use Rattle.eval_works.specs.declared.state.Halt.{Halt}
-use Rattle.eval_works.specs.declared.state.Halt.TheVariants as H
 use Rattle.eval_works.specs.Standing.{GoesBy, basis, left_of, plan_of, AskerOn, EventOn}
 use Rattle.eval_works.specs.Halts.{MakeHalts, ClaimHalts, make_halt}
 use Rattle.eval_works.specs.Asked.{IsKnown, IsKnownRefusal, Told, told_done, told_failed, told_empty, told_waits, NotOpened, AskedOn, ClaimedOn}
@@ -43,7 +41,8 @@ module _ {S : Type 0} (by : Ground S) (limit : ℕ) (g : Glimpse) (w : Duty) (go
   abbrev script : List (Value ℕ) → Script ℕ
   script defs = record { rules = by.table by.code.processors; functions = (seen by.code.program).functions; bodies = (seen by.code.program).bodies; defs = defs }
 
-  same_script : F.script_in by ≡ script_in y.rules y.program y.limit w.outcomes
+  -- the script is the same
+  pub same_script : F.script_in by ≡ script_in y.rules y.program y.limit w.outcomes
   same_script = ap script goes
 
   -- with no ask and no make

@@ -1,2 +1,4 @@
 pub mod Leading
 pub mod Before
+pub mod Meanwhile
+pub mod Starting

@@ -1,4 +1,5 @@
 pub mod Standing
 pub mod Halts
+pub mod Meanwhile
 pub mod Asked
 pub mod Begins

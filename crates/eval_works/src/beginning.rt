@@ -1,26 +1,25 @@
-//! How the work of a part begins, and what it goes by.
+//! How the work of a part or of a form begins, and what it goes by.
 ghost use Rattle.std.specs.Prelude.{◌≡◌, ◌∷◌, ◌+◌, ◌<◌, ◌≤◌, [], ℕ, slice_get, Some, length, IfOk, IsTrue, MatchBool};
-ghost use Rattle.clj_script.specs.Seen.{seen};
+ghost use Rattle.clj_script.specs.Seen.{seen, trees, top_over};
 ghost use Rattle.clj_script.specs.Trees as tree;
 ghost use Rattle.seq_values.specs.Model as M;
 ghost use Rattle.seq_values.specs.Plain.{plain, plains, plain_term};
 ghost use Rattle.seq_values.specs.WellFormed.{are_well_formed};
+ghost use Rattle.seq_values.specs.WellFormedTerms.{is_well_formed_term};
+ghost use Rattle.seq_meaning.specs.Evaluates.{term_plan};
 ghost use Rattle.seq_meaning.specs.Referred.{referred, seen_of};
 ghost use Rattle.seq_plan.specs.Plan as plan;
-ghost use Rattle.seq_values.specs.declared.words.Kind.{Kind};
-ghost use Rattle.seq_values.specs.declared.term.Term as coded;
-ghost use Rattle.cell_book.specs.declared.work.Place.TheVariants as P;
-ghost use Rattle.eval_frames.specs.Frames.{ground};
+ghost use Rattle.eval_frames.specs.Frames.{ground, script_in};
 ghost use Rattle.eval_frames.specs.Leads.{Enters};
 ghost use Rattle.eval_works.specs.Standing.{GoesBy};
-ghost use Rattle.eval_works.specs.Begins.{from_form, IsPartWork, StandsAt, StartsTerm};
+ghost use Rattle.eval_works.specs.Begins.{from_form, IsNewWork, StandsAt, StartsForm, StartsAt};
 
 use crate::state::Begun;
-use cell_book::Work;
+use cell_book::{Place, Work};
 use clj_script::{Program, Top};
-use eval_frames::{Code, Entered, Event, ProperTerm, Rules, begin_part};
+use eval_frames::{Code, Entered, Event, ProperTerm, Rules, begin_form, begin_part};
 use seq_turns::{Gathered, Proper, ProperList};
-use seq_values::Value;
+use seq_values::{Term, Value};
 use seq_vector::{NoMemory, PVec, Share};
 use std::alloc::Global;
 
@@ -113,20 +112,6 @@ pub fn code_of(
     })
 }
 
-/// The term of a part's work.
-fn term_of(work: &Work) -> Result<ProperTerm, NoMemory>
-    requires { IsPartWork work.now }
-    ensures { IfOk result (λ t. (cell : ℕ) (kind : Kind) (term : coded.Term) → work.now.place ≡ P.Part cell kind term → t.term ≡ term) }
-{
-    match work.term() {
-        Some(term) => {
-            let term = term.share()?;
-            Ok(ProperTerm { term })
-        }
-        None => unreachable!(),
-    }
-}
-
 /// The work goes on, or throws at once.
 fn entered<R: Rules>(code: &Code, limit: u64, begun: Entered<R>) -> Event<R>
     ensures { (p : plan.Plan ℕ) (weight : ℕ) → Enters (ground R.running R.table code.now) limit p weight begun → StandsAt (ground R.running R.table code.now) limit p result }
@@ -137,7 +122,50 @@ fn entered<R: Rules>(code: &Code, limit: u64, begun: Entered<R>) -> Event<R>
     }
 }
 
-/// The work of a part, at the start of its run.
+/// The work of a part's term, at the start of its run.
+fn begun_term<R: Rules>(
+    alloc: Global,
+    code: &Code,
+    limit: u64,
+    term: &Term,
+) -> Result<Event<R>, NoMemory>
+    requires { IsTrue (is_well_formed_term term.now) }
+    ensures { IfOk result (λ e. StandsAt (ground R.running R.table code.now) limit (term_plan (script_in (ground R.running R.table code.now)) (plain_term term.now)) e) }
+{
+    let term = term.share()?;
+    let begun = begin_part(alloc, code, limit, ProperTerm { term });
+    Ok(entered(code, limit, begun))
+}
+
+/// The form at a place.
+fn top_at(program: &Program, at: usize) -> Top
+    requires { at < length (seen program.now).tops }
+    ensures { slice_get (seen program.now).tops at ≡ Some (top_over (trees program.now) result) }
+{
+    let forms = program.tops();
+    prove!(at < forms as usize);
+    match program.top(at as u32 + 1) {
+        Some(top) => top,
+        None => unreachable!(),
+    }
+}
+
+/// The work of the form at a place, at the start of its run.
+fn begun_top<R: Rules>(
+    alloc: Global,
+    code: &Code,
+    limit: u64,
+    at: usize,
+) -> Result<Event<R>, NoMemory>
+    requires { at < length (seen code.now.program).tops }
+    ensures { IfOk result (λ e. StartsForm (ground R.running R.table code.now) limit at e) }
+{
+    let form = top_at(&code.program, at);
+    let runner = begin_form(alloc, code, limit, form)?;
+    Ok(Event::Went(runner))
+}
+
+/// The work of a part or of a form, at the start of its run.
 pub fn begin_work<R: Rules>(
     alloc: Global,
     program: &Program,
@@ -145,14 +173,16 @@ pub fn begin_work<R: Rules>(
     limit: u64,
     work: &Work,
 ) -> Result<Begun<R>, NoMemory>
-    requires { IsPartWork work.now }
+    requires { IsNewWork (seen program.now).tops work.now }
     ensures program { IfOk result (λ b. b.code.program ≡ program.now) }
     ensures processors { IfOk result (λ b. b.code.processors ≡ processors) }
     ensures goes { IfOk result (λ b. GoesBy b.code work.now) }
-    ensures starts { IfOk result (λ b. StartsTerm (ground R.running R.table b.code) limit work.now b.event) }
+    ensures starts { IfOk result (λ b. StartsAt (ground R.running R.table b.code) limit work.now b.event) }
 {
     let code = code_of(alloc, program, processors, work)?;
-    let term = term_of(work)?;
-    let event = entered(&code, limit, begin_part(alloc, &code, limit, term));
+    let event = match work.place() {
+        Place::Part { term, .. } => begun_term(alloc, &code, limit, term)?,
+        Place::Form { at, .. } => begun_top(alloc, &code, limit, *at)?,
+    };
     Ok(Begun { code, event })
 }

@@ -7,6 +7,9 @@ ghost use Rattle.cell_book.specs.Glimpses.{Holds, after_end};
 ghost use Rattle.eval_frames.specs.Frames.{ground};
 ghost use Rattle.lawful_works.specs.Basis.{RunsTo, Governs, StaysOn};
 ghost use Rattle.lawful_works.specs.Calls.{OnCell, OpenedFor, Throws, HasValue};
+ghost use Rattle.lawful_works.specs.Named.{StaysGood};
+ghost use Rattle.lawful_works.specs.Alone.{Becomes, Quiets};
+ghost use Rattle.lawful_works.specs.Evaluated.{HasError};
 ghost use Rattle.eval_works.specs.Standing.{basis};
 
 use cell_book::{Cells, Work};
@@ -32,6 +35,8 @@ pub fn end_value<C: Cells, R: Rules>(
     ensures others { (w : Duty) → 0 < C.held cells.old w.claim → w.claim ≢ work.claim → StaysOn (C.seen cells.old) (C.seen cells.new) w }
     ensures holds { (c : ℕ) → 0 < C.held cells.old c → c ≢ work.claim → Holds c (C.seen cells.old) (C.seen cells.new) }
     ensures law { Governs (C.alone cells.new) (C.law cells.new) (C.noted cells.new) (basis (ground R.running R.table code.now) limit) }
+    ensures quiet { Becomes (C.alone cells.old) (C.noted cells.old) (C.noted cells.new) Quiets }
+    ensures names { StaysGood (C.alone cells.old) (C.law cells.old) (C.noted cells.old) (C.alone cells.new) (C.law cells.new) (C.noted cells.new) (basis (ground R.running R.table code.now) limit) }
     ensures held { (c : ℕ) → C.held cells.new c ≡ after_end (C.held cells.old) work c }
     ensures same { C.same cells.old cells.new }
 {
@@ -51,10 +56,13 @@ pub fn end_throw<C: Cells, R: Rules>(
     requires own { 0 < C.held cells.old work.claim }
     requires law { Governs (C.alone cells.old) (C.law cells.old) (C.noted cells.old) (basis (ground R.running R.table code.now) limit) }
     requires run { RunsTo (basis (ground R.running R.table code.now) limit) (C.seen cells.old) work left (throw why) }
+    ensures error { HasError (C.seen cells.new) work why }
     ensures asker { (w : Duty) (c : ℕ) → 0 < C.held cells.old w.claim → w.claim ≢ work.claim → OnCell (C.seen cells.old) work (Some w.claim) c → Throws (C.seen cells.old) (C.seen cells.new) w c why }
     ensures others { (w : Duty) (asker : Option ℕ) → 0 < C.held cells.old w.claim → w.claim ≢ work.claim → OpenedFor (C.seen cells.old) work asker → asker ≢ Some w.claim → StaysOn (C.seen cells.old) (C.seen cells.new) w }
     ensures holds { (c : ℕ) → 0 < C.held cells.old c → c ≢ work.claim → Holds c (C.seen cells.old) (C.seen cells.new) }
     ensures law { Governs (C.alone cells.new) (C.law cells.new) (C.noted cells.new) (basis (ground R.running R.table code.now) limit) }
+    ensures quiet { Becomes (C.alone cells.old) (C.noted cells.old) (C.noted cells.new) Quiets }
+    ensures names { StaysGood (C.alone cells.old) (C.law cells.old) (C.noted cells.old) (C.alone cells.new) (C.law cells.new) (C.noted cells.new) (basis (ground R.running R.table code.now) limit) }
     ensures held { (c : ℕ) → C.held cells.new c ≡ after_end (C.held cells.old) work c }
     ensures same { C.same cells.old cells.new }
 {

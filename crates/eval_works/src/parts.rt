@@ -5,6 +5,9 @@ ghost use Rattle.cell_book.specs.Glimpses.{Holds};
 ghost use Rattle.eval_frames.specs.Frames.{ground, beneath, maker_plan, makes_plan};
 ghost use Rattle.eval_frames.specs.Leads.{LeadsTo};
 ghost use Rattle.lawful_works.specs.Basis.{RunsTo, Governs, StaysOn};
+ghost use Rattle.lawful_works.specs.Named.{StaysGood};
+ghost use Rattle.lawful_works.specs.Alone.{Becomes};
+ghost use Rattle.eval_works.specs.Meanwhile.{Meanwhile};
 ghost use Rattle.eval_works.specs.Standing.{GoesBy, basis, AskerOn, EventOn};
 ghost use Rattle.eval_works.specs.Halts.{MakeHalts, ClaimHalts, make_halt};
 ghost use Rattle.eval_works.specs.Asked.{IsKnown, IsKnownRefusal, Told, NotOpened, AskedOn, ClaimedOn, held_then, OpensNew};
@@ -67,6 +70,8 @@ pub fn make_part<C: Cells, R: Rules>(
     ensures others { (w : Duty) → 0 < C.held cells.old w.claim → w.claim ≢ work.now.claim → StaysOn (C.seen cells.old) (C.seen cells.new) w }
     ensures holds { (c : ℕ) → 0 < C.held cells.old c → Holds c (C.seen cells.old) (C.seen cells.new) }
     ensures law { Governs (C.alone cells.new) (C.law cells.new) (C.noted cells.new) (basis (ground R.running R.table code.now) limit) }
+    ensures quiet { Becomes (C.alone cells.old) (C.noted cells.old) (C.noted cells.new) (Meanwhile result) }
+    ensures names { StaysGood (C.alone cells.old) (C.law cells.old) (C.noted cells.old) (C.alone cells.new) (C.law cells.new) (C.noted cells.new) (basis (ground R.running R.table code.now) limit) }
     ensures held { (c : ℕ) → C.held cells.new c ≡ C.held cells.old c }
     ensures same { C.same cells.old cells.new }
 {
@@ -120,6 +125,8 @@ pub fn look<C: Cells, R: Rules>(
     ensures others { (w : Duty) → 0 < C.held cells.old w.claim → StaysOn (C.seen cells.old) (C.seen cells.new) w }
     ensures holds { (c : ℕ) → 0 < C.held cells.old c → Holds c (C.seen cells.old) (C.seen cells.new) }
     ensures law { Governs (C.alone cells.new) (C.law cells.new) (C.noted cells.new) (basis (ground R.running R.table code.now) limit) }
+    ensures quiet { Becomes (C.alone cells.old) (C.noted cells.old) (C.noted cells.new) (Meanwhile result) }
+    ensures names { StaysGood (C.alone cells.old) (C.law cells.old) (C.noted cells.old) (C.alone cells.new) (C.law cells.new) (C.noted cells.new) (basis (ground R.running R.table code.now) limit) }
     ensures held { (c : ℕ) → C.held cells.new c ≡ C.held cells.old c }
     ensures same { C.same cells.old cells.new }
 {
@@ -171,6 +178,8 @@ pub fn claim<C: Cells, R: Rules>(
     ensures holds { (c : ℕ) → 0 < C.held cells.old c → Holds c (C.seen cells.old) (C.seen cells.new) }
     ensures law { Governs (C.alone cells.new) (C.law cells.new) (C.noted cells.new) (basis (ground R.running R.table code.now) limit) }
     ensures fresh { IfOk result (OpensNew (C.held cells.old)) }
+    ensures quiet { Becomes (C.alone cells.old) (C.noted cells.old) (C.noted cells.new) (Meanwhile result) }
+    ensures names { StaysGood (C.alone cells.old) (C.law cells.old) (C.noted cells.old) (C.alone cells.new) (C.law cells.new) (C.noted cells.new) (basis (ground R.running R.table code.now) limit) }
     ensures held { (c : ℕ) → C.held cells.new c ≡ held_then (C.held cells.old) result c }
     ensures same { C.same cells.old cells.new }
 {

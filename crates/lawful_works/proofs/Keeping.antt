@@ -10,11 +10,13 @@ use Rattle.seq_values.specs.Model.{Value}
 use Rattle.seq_values.specs.Plain.{plain, plain_term}
 use Rattle.seq_values.specs.WellFormed.{is_well_formed}
 use Rattle.seq_values.specs.WellFormedTerms.{is_well_formed_term}
-use Rattle.seq_plan.specs.Plan.{Plan, ask, make, give, throw}
+use Rattle.seq_plan.specs.Plan.{Plan, ask, make, give, throw, Rules}
+use Rattle.seq_meaning.specs.Names.{Name}
+use Rattle.seq_lawful.specs.Renaming.{NamesRename}
 use Rattle.cell_book.specs.declared.cell.Cell.{Cell}
 use Rattle.cell_book.specs.Account.{Account, Duty}
 use Rattle.cell_book.specs.Steps.{asker_of, Begins, BeginAnswer, Makes, MakeAnswer, Claims, ClaimAnswer, Finishes, Fails, GivesUp, IsOpenIn}
-use Rattle.cell_book.specs.Glimpses.{Glimpse, glimpse, IsOpen, Fits}
+use Rattle.cell_book.specs.Glimpses.{Glimpse, glimpse, IsOpen, Fits, LawIs}
 use Rattle.cell_book.proofs.Laws.{meets_law, lawful, still_lawful}
 use Rattle.cell_book.proofs.Onwards.{fits_onward, fits_open, fits_reaches}
 use Rattle.seq_lawful.specs.Lawful.{Lawful}
@@ -89,6 +91,14 @@ module _ (alone leads : Bool) (law noted : Account → Type 0) (g : Glimpse) (mi
   pub demand : Free alone law → IsGood o.names y b → law b
   demand free p = lawful alone law noted Good b (free b) o.is p
 
+  -- by the same rules it is good after it
+  pub good_on : (alone2 : Bool) (law2 noted2 : Account → Type 0) → alone2 ≡ alone → ((c : Account) → (law c → law2 c) × (law2 c → law c)) → ((c d : Account) → noted2 c → noted2 d → c ≡ d) → (alone ≡ true → noted2 b) → IsGood o.names y b → LawIs alone2 law2 noted2 (IsGood o.names y)
+  good_on alone2 law2 noted2 same_alone same_law one new p = still_lawful alone alone2 law law2 noted noted2 Good b same_alone same_law one new p o.is
+
   -- what stays so after it
   pub governs_on : (alone2 : Bool) (law2 noted2 : Account → Type 0) → alone2 ≡ alone → ((c : Account) → (law c → law2 c) × (law2 c → law c)) → ((c d : Account) → noted2 c → noted2 d → c ≡ d) → (alone ≡ true → noted2 b) → IsGood o.names y b → Governs alone2 law2 noted2 y
   governs_on alone2 law2 noted2 same_alone same_law one new p = record { names = o.names; alike = o.alike; is = still_lawful alone alone2 law law2 noted noted2 Good b same_alone same_law one new p o.is }
+
+-- the book is good by these rules
+abbrev pub governed : (alone : Bool) (law noted : Account → Type 0) (y : Basis) (names : Rules Name) → NamesRename y.rules names y.program y.limit → LawIs alone law noted (IsGood names y) → Governs alone law noted y
+governed alone law noted y names alike is = record { names = names; alike = alike; is = is }

@@ -4,3 +4,4 @@ pub mod Keeping
 pub mod Ending
 pub mod Asking
 pub mod Making
+pub mod Noting

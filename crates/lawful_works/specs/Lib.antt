@@ -1,3 +1,6 @@
 pub mod Proper
 pub mod Basis
 pub mod Calls
+pub mod Evaluated
+pub mod Alone
+pub mod Named

@@ -8,6 +8,8 @@ ghost use Rattle.seq_plan.specs.Plan as plan;
 ghost use Rattle.cell_book.specs.Account.{Duty};
 ghost use Rattle.cell_book.specs.Glimpses.{Holds, SeesSpent, SeesGaveUp, after_open};
 ghost use Rattle.lawful_works.specs.Basis.{Basis, RunsTo, Governs, StaysOn};
+ghost use Rattle.lawful_works.specs.Named.{StaysGood};
+ghost use Rattle.lawful_works.specs.Alone.{Becomes, Quiets, MakesQuietly, ClaimsQuietly};
 ghost use Rattle.lawful_works.specs.Calls.{MakesNext, AsksNext, IsFuture, Made, Looked, Refused, Opened};
 
 use cell_book::{Cells, ClaimRefusal, Look, MakeRefusal, Work};
@@ -31,6 +33,8 @@ pub fn add<C: Cells>(
     ensures others { (w : Duty) → 0 < C.held cells.old w.claim → w.claim ≢ by.now.claim → StaysOn (C.seen cells.old) (C.seen cells.new) w }
     ensures holds { (c : ℕ) → 0 < C.held cells.old c → Holds c (C.seen cells.old) (C.seen cells.new) }
     ensures law { (y : Basis) (left : ℕ) (k : ℕ → plan.Plan ℕ) → Governs (C.alone cells.old) (C.law cells.old) (C.noted cells.old) y → RunsTo y (C.seen cells.old) by.now left (plan.make kind (plain_term term) k) → Governs (C.alone cells.new) (C.law cells.new) (C.noted cells.new) y }
+    ensures quiet { Becomes (C.alone cells.old) (C.noted cells.old) (C.noted cells.new) (MakesQuietly result) }
+    ensures names { (y : Basis) (left : ℕ) (k : ℕ → plan.Plan ℕ) → RunsTo y (C.seen cells.old) by.now left (plan.make kind (plain_term term) k) → StaysGood (C.alone cells.old) (C.law cells.old) (C.noted cells.old) (C.alone cells.new) (C.law cells.new) (C.noted cells.new) y }
     ensures held { (c : ℕ) → C.held cells.new c ≡ C.held cells.old c }
     ensures same { C.same cells.old cells.new }
 {
@@ -46,6 +50,8 @@ pub fn see<C: Cells>(cells: &mut C, by: &Work, id: CellId) -> Result<Look, NoMem
     ensures others { (w : Duty) → 0 < C.held cells.old w.claim → StaysOn (C.seen cells.old) (C.seen cells.new) w }
     ensures holds { (c : ℕ) → 0 < C.held cells.old c → Holds c (C.seen cells.old) (C.seen cells.new) }
     ensures law { (y : Basis) → Governs (C.alone cells.old) (C.law cells.old) (C.noted cells.old) y → Governs (C.alone cells.new) (C.law cells.new) (C.noted cells.new) y }
+    ensures quiet { Becomes (C.alone cells.old) (C.noted cells.old) (C.noted cells.new) Quiets }
+    ensures names { (y : Basis) → StaysGood (C.alone cells.old) (C.law cells.old) (C.noted cells.old) (C.alone cells.new) (C.law cells.new) (C.noted cells.new) y }
     ensures held { (c : ℕ) → C.held cells.new c ≡ C.held cells.old c }
     ensures same { C.same cells.old cells.new }
 {
@@ -65,6 +71,8 @@ pub fn ask<C: Cells>(cells: &mut C, by: &Work, id: CellId) -> Result<Work, Claim
     ensures holds { (c : ℕ) → 0 < C.held cells.old c → Holds c (C.seen cells.old) (C.seen cells.new) }
     ensures law { (y : Basis) (left : ℕ) (k : Value ℕ → plan.Plan ℕ) → Governs (C.alone cells.old) (C.law cells.old) (C.noted cells.old) y → RunsTo y (C.seen cells.old) by.now (suc left) (plan.ask id k) → Governs (C.alone cells.new) (C.law cells.new) (C.noted cells.new) y }
     ensures fresh { IfOk result (λ w. C.held cells.old w.claim ≡ 0) }
+    ensures quiet { Becomes (C.alone cells.old) (C.noted cells.old) (C.noted cells.new) (ClaimsQuietly result) }
+    ensures names { (y : Basis) (left : ℕ) (k : Value ℕ → plan.Plan ℕ) → RunsTo y (C.seen cells.old) by.now (suc left) (plan.ask id k) → StaysGood (C.alone cells.old) (C.law cells.old) (C.noted cells.old) (C.alone cells.new) (C.law cells.new) (C.noted cells.new) y }
     ensures held { (c : ℕ) → C.held cells.new c ≡ after_open (C.held cells.old) result c }
     ensures same { C.same cells.old cells.new }
 {
@@ -81,6 +89,8 @@ pub fn start<C: Cells>(cells: &mut C, id: CellId) -> Result<Work, ClaimRefusal>
     ensures holds { (c : ℕ) → 0 < C.held cells.old c → Holds c (C.seen cells.old) (C.seen cells.new) }
     ensures law { (y : Basis) → Governs (C.alone cells.old) (C.law cells.old) (C.noted cells.old) y → Governs (C.alone cells.new) (C.law cells.new) (C.noted cells.new) y }
     ensures fresh { IfOk result (λ w. C.held cells.old w.claim ≡ 0) }
+    ensures quiet { Becomes (C.alone cells.old) (C.noted cells.old) (C.noted cells.new) (ClaimsQuietly result) }
+    ensures names { (y : Basis) → StaysGood (C.alone cells.old) (C.law cells.old) (C.noted cells.old) (C.alone cells.new) (C.law cells.new) (C.noted cells.new) y }
     ensures held { (c : ℕ) → C.held cells.new c ≡ after_open (C.held cells.old) result c }
     ensures same { C.same cells.old cells.new }
 {

@@ -4,6 +4,8 @@
 
 mod asks;
 mod ends;
+mod stop;
 
 pub use asks::{add, ask, see, start};
 pub use ends::{begin, end, finish, lose};
+pub use stop::Stop;

@@ -1,7 +1,3 @@
-pub mod Answers
-pub mod Elements
-pub mod Shape
-pub mod Links
+pub mod Lines
 pub mod Stops
 pub mod Statuses
-pub mod Evaluating

@@ -1,21 +1,7 @@
-//! From a script's text to the lists of its forms.
-ghost use Rattle.std.specs.Prelude.{◌≡◌, ◌<◌, [], ◌∷◌, length, slice_get, Some, IfOk};
-ghost use Rattle.clj_reader.specs.declared.form.Form.{Form as Item};
-ghost use Rattle.clj_script.specs.Scripts.{Means};
-ghost use Rattle.clj_script.specs.Seen.{seen};
-ghost use Rattle.seq_run.specs.declared.script.Refusal.{Refusal as Refused};
-ghost use Rattle.seq_run.specs.declared.status.Status.TheVariants.{Done, ScriptRefused};
-ghost use Rattle.seq_run.specs.Shape.{AreShapes, IsFirstStray};
-ghost use Rattle.seq_run.specs.Answers.{Answered, sum_lines, refusal_line};
-
-use crate::chain::Chain;
-use crate::form::lists_of;
-use clj_reader::{Forms, Place, ReadFormsStop, read_forms};
-use clj_script::{CompileStop, Program, compile};
-use std::alloc::{AllocError, AllocFailed, Global};
-
-/// The number of a form that the program doesn't run.
-const OUTSIDE: u8 = 10;
+//! Why there is no program to run.
+use clj_reader::{Place, ReadFormsStop};
+use clj_script::CompileStop;
+use std::alloc::{AllocError, AllocFailed};
 
 /// Why a text isn't run, by its number, and where.
 #[derive(Clone, Copy, Debug, PartialEq, Eq)]
@@ -86,49 +72,5 @@ impl From<CompileStop> for ScriptStop {
             }),
             CompileStop::Memory => ScriptStop::Memory,
         }
-    }
-}
-
-/// The lists of which each form of a text writes the sum, or the text's refusal.
-
-pub fn read_script(alloc: Global, text: &[u8]) -> Result<Vec<Chain>, ScriptStop>
-    ensures sums { IfOk result (λ all. Answered text.now Done (sum_lines all.items)) }
-    ensures refused { (r : Refused) → result ≡ Err (ScriptStop.Refused r)
-        → Answered text.now ScriptRefused (refusal_line r.number r.place) }
-{
-    let forms = read_forms(alloc, text)?;
-    let program = compile(alloc, &forms)?;
-    all_lists(alloc, &forms, &program)
-}
-
-/// The lists of each form of a program, or the refusal of the first form that isn't of the shape.
-fn all_lists(alloc: Global, forms: &Forms, program: &Program) -> Result<Vec<Chain>, ScriptStop>
-    requires { Means forms.now (seen program.now) [] }
-    ensures shapes { IfOk result (λ all. AreShapes all.items (seen program.now).tops) }
-    ensures stray { (r : Refused) → result ≡ Err (ScriptStop.Refused r)
-        → (r.number ≡ 10) × IsFirstStray forms.now (seen program.now).tops r.place }
-{
-    let mut all = Vec::new(alloc);
-    for at in 0..program.tops() {
-        match lists_of(alloc, program, at + 1)? {
-            Some(lists) => all.push(lists)?,
-            None => return Err(ScriptStop::Refused(outside(forms, at))),
-        }
-    }
-    Ok(all)
-}
-
-/// The refusal of a form that the program doesn't run, by its number from 0.
-fn outside(forms: &Forms, at: u32) -> Refusal
-    requires { at < length forms.now }
-    ensures number { result.number ≡ 10 }
-    ensures place { (form : Item) → slice_get forms.now at ≡ Some form → result.place ≡ form.place }
-{
-    match forms.get(at as usize) {
-        Some(form) => Refusal {
-            number: OUTSIDE,
-            place: form.place,
-        },
-        None => unreachable!(),
     }
 }

@@ -6,13 +6,13 @@ ghost use Rattle.seq_run.specs.Statuses.{number_of};
 pub enum Status {
     /// The whole script was run.
     Done,
-    /// A `def` threw. It doesn't come yet.
+    /// A `def` threw.
     DefThrew,
     /// The command line isn't one.
     Usage,
     /// The text is no script.
     ScriptRefused,
-    /// The parts passed the cell limit. It doesn't come yet.
+    /// The parts passed the cell limit.
     CellsSpent,
     /// Standard input failed.
     ReadFault,

@@ -1,34 +1,29 @@
-use Rattle.std.proofs.Common.{◌≡◌, MatchOption, Some, drop, sym, subst}
+use Rattle.std.proofs.Common.{◌≡◌, MatchOption, [], ap, refl, sym, subst, false, drop, ◌∙◌, Option}
+use Rattle.std.proofs.lemmas.Result.{IfOk-weaker}
+use Rattle.clap.specs.Words.{App, HasKind, app_of, found_of, is_simple, is_simple_and_free, fault_of, matches_of, rows_of}
+use Rattle.command_line.specs.declared.given.Options.{Options}
 use Rattle.command_line.specs.Asking.{Asks, IsFaulty}
-use Rattle.command_line.specs.Settings.{texts, first_of}
-use Rattle.command_line.proofs.Spelling.{reads_more, unfit_faulty, asks_all, stray_faulty, fewer_words, no_words, some_words}
+use Rattle.command_line.specs.Line.{line}
+use Rattle.command_line.specs.Settings.{texts}
+use Rattle.command_line.proofs.Agreeing.{has_dashed}
+use Rattle.command_line.proofs.Answering.{answer_right, dashed_faulty, dashed_texts, refused_faulty, simple}
 use Rattle.command_line.proofs.asking.asked.Goals as goal
 
-pub returns-in_err-given : goal.returns-in_err-given
-returns-in_err-given c =
+pub returns-then-has_dashes : goal.returns-then-has_dashes
+returns-then-has_dashes c =
+    dashed_faulty (texts c.args.words.now) (ap has_dashed (sym c.behind_name.ensures) ∙ (sym (dashed_texts c.behind_name.result.now) ∙ (sym c.has_dashes.ensures ∙ c.if-has_dashes.true)))
+
+pub returns-in-Ok : goal.returns-in-Ok
+returns-in-Ok c =
     let words = texts c.args.words.now in
-    let r = c.loop-setting.invariant in
-    let f : first_of (texts c.loop-setting.rest.now) ≡ Some (c.in-Some.setting, texts c.in-Some.more.now) = sym c.in-Some.ensures in
-    let faulty : IsFaulty words = unfit_faulty words (texts c.loop-setting.rest.now) (texts c.in-Some.more.now) c.in-Some.setting c.loop-setting.given f r (c.in_err-given.ensures r.all r.holds) in
-    subst (λ o. MatchOption o (IsFaulty words) (λ a. Asks words a)) (sym c.from_residual.ensures) faulty
+    let clean : has_dashed (drop 1 (texts c.args.words.now)) ≡ false = ap has_dashed (sym c.behind_name.ensures) ∙ (sym (dashed_texts c.behind_name.result.now) ∙ (sym c.has_dashes.ensures ∙ c.if-has_dashes.false)) in
+    let app : app_of c.in_ok-command.field-0 ≡ line = c.in_ok-command.ensures in
+    let rows : rows_of (found_of c.in-Ok.matches) ≡ matches_of line (texts c.args.words.now) = (c.in-Ok.ensures.matches (ap is_simple app ∙ refl)).0 ∙ ap (λ (x : App). matches_of x (texts c.args.words.now)) app in
+    let free : fault_of line (texts c.args.words.now) ≡ [] = ap (λ (x : App). fault_of x (texts c.args.words.now)) (sym app) ∙ c.in-Ok.ensures.kinds (ap is_simple_and_free app ∙ simple) in
+    answer_right words (found_of c.in-Ok.matches) c.answer.result rows free clean c.answer.ensures
 
-pub loop-setting-smaller : goal.loop-setting-smaller
-loop-setting-smaller c =
-    let f : first_of (texts c.loop-setting.rest.now) ≡ Some (c.in-Some.setting, texts c.in-Some.more.now) = sym c.in-Some.ensures in
-    fewer_words c.loop-setting.rest.now c.in-Some.more.now c.in-Some.setting f
-
-pub loop-setting-preserved : goal.loop-setting-preserved
-loop-setting-preserved c =
-    let r = c.loop-setting.invariant in
-    let f : first_of (texts c.loop-setting.rest.now) ≡ Some (c.in-Some.setting, texts c.in-Some.more.now) = sym c.in-Some.ensures in
-    reads_more (drop 1 (texts c.args.words.now)) (texts c.loop-setting.rest.now) (texts c.in-Some.more.now) c.in-Some.setting c.loop-setting.given c.in_ok-given.given f r (c.in_ok-given.ensures r.all r.holds)
-
-pub returns-then-is_empty : goal.returns-then-is_empty
-returns-then-is_empty c =
-    let r = c.loop-setting.invariant in
-    asks_all (texts c.args.words.now) (texts c.loop-setting.rest.now) c.loop-setting.given c.asked.result (no_words c.loop-setting.rest.now c.if-is_empty.ensures) r (c.asked.ensures r.all r.holds)
-
-pub returns-else-is_empty : goal.returns-else-is_empty
-returns-else-is_empty c =
-    let r = c.loop-setting.invariant in
-    stray_faulty (texts c.args.words.now) (texts c.loop-setting.rest.now) c.loop-setting.given (sym c.in_default.ensures) (some_words c.loop-setting.rest.now c.if-is_empty.ensures) r
+pub returns-in-Err : goal.returns-in-Err
+returns-in-Err c =
+    let app : app_of c.in_ok-command.field-0 ≡ line = c.in_ok-command.ensures in
+    let kinds : HasKind (fault_of line (texts c.args.words.now)) c.in-Err.error = subst (λ (x : App). HasKind (fault_of x (texts c.args.words.now)) c.in-Err.error) app (c.in-Err.ensures.kinds (ap is_simple_and_free app ∙ simple)) in
+    IfOk-weaker c.refused.result _ _ (λ o h. subst (λ (z : Option Options). MatchOption z (IsFaulty (texts c.args.words.now)) (λ a. Asks (texts c.args.words.now) a)) (sym h.0) (refused_faulty (texts c.args.words.now) c.in-Err.error h.1 kinds)) c.refused.ensures

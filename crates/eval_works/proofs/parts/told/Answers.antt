@@ -1,4 +1,4 @@
-use Rattle.std.proofs.Common.{◌≡◌, sym, subst}
+use Rattle.std.proofs.Common.{sym, subst}
 use Rattle.eval_frames.specs.Frames.{ground}
 use Rattle.eval_works.specs.declared.state.Asked.TheVariants as A
 use Rattle.eval_works.specs.Asked.{Told, told_done, told_failed, told_empty, told_waits}

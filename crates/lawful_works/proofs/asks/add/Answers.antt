@@ -1,8 +1,10 @@
 use Rattle.seq_values.specs.Plain.{plain_term}
 use Rattle.seq_plan.specs.Plan.{make}
 use Rattle.seq_lawful.proofs.OnRuns.{on_open}
-use Rattle.lawful_works.proofs.Keeping.{after_make, demand, governs_on}
+use Rattle.lawful_works.proofs.Keeping.{after_make, demand, governs_on, good_on, governed}
 use Rattle.lawful_works.proofs.Making.{makes_on, makes_not, others_make, holds_make}
+use Rattle.lawful_works.specs.Alone.{MakesQuietly}
+use Rattle.lawful_works.proofs.Noting.{becomes, makes_quietly}
 use Rattle.lawful_works.proofs.asks.add.Goals as goal
 
 pub make-requires-clause-own : goal.make-requires-clause-own
@@ -58,3 +60,19 @@ returns-clause-law g c =
     let t = c.make.new.self in
     let st = c.make.ensures.step in
     λ y left k o r. governs_on (C.alone s) (C.leads s) (C.law s) (C.noted s) (C.seen s) (C.held s) y o st.0 st.1 st.2 (C.alone t) (C.law t) (C.noted t) (g.met.C.Cells.same_alone s t c.make.ensures.same) (g.met.C.Cells.same_law s t c.make.ensures.same) (λ d e. g.met.C.Cells.noted_one t d e) st.4.1 (after_make (C.alone s) (C.leads s) (C.law s) (C.noted s) (C.seen s) (C.held s) y o st.0 st.1 st.2 c.args.by.now left c.args.kind c.args.term k c.make.result c.requires.own r c.requires.well st.3)
+
+pub returns-clause-quiet : goal.returns-clause-quiet
+returns-clause-quiet g c =
+    let C = g.C.Cells in
+    let s = c.args.cells.now in
+    let t = c.make.new.self in
+    let st = c.make.ensures.step in
+    becomes (C.alone s) (C.leads s) (C.law s) (C.noted s) (C.noted t) (C.seen s) (C.held s) (MakesQuietly c.make.result) st.0 st.1 st.2 (λ d e. g.met.C.Cells.noted_one s d e) st.4.1 (makes_quietly st.0 st.1 c.args.by.now c.args.term c.args.kind c.make.result st.3)
+
+pub returns-clause-names : goal.returns-clause-names
+returns-clause-names g c =
+    let C = g.C.Cells in
+    let s = c.args.cells.now in
+    let t = c.make.new.self in
+    let st = c.make.ensures.step in
+    λ y left k r names alike is. (let o = governed (C.alone s) (C.law s) (C.noted s) y names alike is in (good_on (C.alone s) (C.leads s) (C.law s) (C.noted s) (C.seen s) (C.held s) y o st.0 st.1 st.2 (C.alone t) (C.law t) (C.noted t) (g.met.C.Cells.same_alone s t c.make.ensures.same) (g.met.C.Cells.same_law s t c.make.ensures.same) (λ d e. g.met.C.Cells.noted_one t d e) st.4.1 (after_make (C.alone s) (C.leads s) (C.law s) (C.noted s) (C.seen s) (C.held s) y o st.0 st.1 st.2 c.args.by.now left c.args.kind c.args.term k c.make.result c.requires.own r c.requires.well st.3)))

@@ -3,10 +3,12 @@ use Rattle.seq_plan.specs.Plan.{give}
 use Rattle.cell_book.proofs.Laws.{ended_held}
 use Rattle.cell_book.proofs.Moves.{finishes_holds}
 use Rattle.seq_lawful.proofs.OnRuns.{on_open}
-use Rattle.lawful_works.proofs.Keeping.{good_now, open_now, after_finish, demand, governs_on}
+use Rattle.lawful_works.proofs.Keeping.{good_now, open_now, after_finish, demand, governs_on, good_on, governed}
 use Rattle.lawful_works.proofs.Asking.{holds_over}
 use Rattle.lawful_works.proofs.Ending.{asked_or, stays_finished}
 use Rattle.lawful_works.proofs.Making.{has_value}
+use Rattle.lawful_works.specs.Alone.{Quiets}
+use Rattle.lawful_works.proofs.Noting.{becomes, finishes_quietly}
 use Rattle.lawful_works.proofs.ends.finish.Goals as goal
 
 pub finish-requires-clause-own : goal.finish-requires-clause-own
@@ -57,3 +59,19 @@ returns-clause-law g c =
     let t = c.finish.new.self in
     let st = c.finish.ensures.step in
     λ y left o r. governs_on (C.alone s) (C.leads s) (C.law s) (C.noted s) (C.seen s) (C.held s) y o st.0 st.1 st.2 (C.alone t) (C.law t) (C.noted t) (g.met.C.Cells.same_alone s t c.finish.ensures.same) (g.met.C.Cells.same_law s t c.finish.ensures.same) (λ d e. g.met.C.Cells.noted_one t d e) st.4.1 (after_finish (C.alone s) (C.leads s) (C.law s) (C.noted s) (C.seen s) (C.held s) y o st.0 st.1 st.2 c.args.work left c.args.value c.requires.own r c.requires.well st.3)
+
+pub returns-clause-quiet : goal.returns-clause-quiet
+returns-clause-quiet g c =
+    let C = g.C.Cells in
+    let s = c.args.cells.now in
+    let t = c.finish.new.self in
+    let st = c.finish.ensures.step in
+    becomes (C.alone s) (C.leads s) (C.law s) (C.noted s) (C.noted t) (C.seen s) (C.held s) Quiets st.0 st.1 st.2 (λ d e. g.met.C.Cells.noted_one s d e) st.4.1 (finishes_quietly st.0 st.1 c.args.work c.args.value st.3)
+
+pub returns-clause-names : goal.returns-clause-names
+returns-clause-names g c =
+    let C = g.C.Cells in
+    let s = c.args.cells.now in
+    let t = c.finish.new.self in
+    let st = c.finish.ensures.step in
+    λ y left r names alike is. (let o = governed (C.alone s) (C.law s) (C.noted s) y names alike is in (good_on (C.alone s) (C.leads s) (C.law s) (C.noted s) (C.seen s) (C.held s) y o st.0 st.1 st.2 (C.alone t) (C.law t) (C.noted t) (g.met.C.Cells.same_alone s t c.finish.ensures.same) (g.met.C.Cells.same_law s t c.finish.ensures.same) (λ d e. g.met.C.Cells.noted_one t d e) st.4.1 (after_finish (C.alone s) (C.leads s) (C.law s) (C.noted s) (C.seen s) (C.held s) y o st.0 st.1 st.2 c.args.work left c.args.value c.requires.own r c.requires.well st.3)))

@@ -1,8 +1,10 @@
 use Rattle.cell_book.proofs.Laws.{ended_held}
 use Rattle.cell_book.proofs.Moves.{gives_up_holds}
-use Rattle.lawful_works.proofs.Keeping.{good_now, open_now, after_give_up, demand, governs_on}
+use Rattle.lawful_works.proofs.Keeping.{good_now, open_now, after_give_up, demand, governs_on, good_on, governed}
 use Rattle.lawful_works.proofs.Asking.{holds_over}
 use Rattle.lawful_works.proofs.Ending.{asked_or, stays_given_up}
+use Rattle.lawful_works.specs.Alone.{Grows}
+use Rattle.lawful_works.proofs.Noting.{becomes, gives_up_growing}
 use Rattle.lawful_works.proofs.ends.lose.Goals as goal
 
 pub give_up-requires-clause-own : goal.give_up-requires-clause-own
@@ -41,3 +43,19 @@ returns-clause-law g c =
     let t = c.give_up.new.self in
     let st = c.give_up.ensures.step in
     λ y o. governs_on (C.alone s) (C.leads s) (C.law s) (C.noted s) (C.seen s) (C.held s) y o st.0 st.1 st.2 (C.alone t) (C.law t) (C.noted t) (g.met.C.Cells.same_alone s t c.give_up.ensures.same) (g.met.C.Cells.same_law s t c.give_up.ensures.same) (λ d e. g.met.C.Cells.noted_one t d e) st.4.1 (after_give_up (C.alone s) (C.leads s) (C.law s) (C.noted s) (C.seen s) (C.held s) y o st.0 st.1 st.2 c.args.work c.requires.own c.requires.open st.3)
+
+pub returns-clause-quiet : goal.returns-clause-quiet
+returns-clause-quiet g c =
+    let C = g.C.Cells in
+    let s = c.args.cells.now in
+    let t = c.give_up.new.self in
+    let st = c.give_up.ensures.step in
+    becomes (C.alone s) (C.leads s) (C.law s) (C.noted s) (C.noted t) (C.seen s) (C.held s) Grows st.0 st.1 st.2 (λ d e. g.met.C.Cells.noted_one s d e) st.4.1 (gives_up_growing st.0 st.1 c.args.work st.3)
+
+pub returns-clause-names : goal.returns-clause-names
+returns-clause-names g c =
+    let C = g.C.Cells in
+    let s = c.args.cells.now in
+    let t = c.give_up.new.self in
+    let st = c.give_up.ensures.step in
+    λ y names alike is. (let o = governed (C.alone s) (C.law s) (C.noted s) y names alike is in (good_on (C.alone s) (C.leads s) (C.law s) (C.noted s) (C.seen s) (C.held s) y o st.0 st.1 st.2 (C.alone t) (C.law t) (C.noted t) (g.met.C.Cells.same_alone s t c.give_up.ensures.same) (g.met.C.Cells.same_law s t c.give_up.ensures.same) (λ d e. g.met.C.Cells.noted_one t d e) st.4.1 (after_give_up (C.alone s) (C.leads s) (C.law s) (C.noted s) (C.seen s) (C.held s) y o st.0 st.1 st.2 c.args.work c.requires.own c.requires.open st.3)))

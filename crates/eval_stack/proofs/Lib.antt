@@ -1,0 +1,5 @@
+pub mod Claims
+pub mod Standing
+pub mod Notes
+pub mod Starting
+pub mod Forced

@@ -1,0 +1,4 @@
+pub mod Stack
+pub mod Turned
+pub mod Came
+pub mod Evaluating

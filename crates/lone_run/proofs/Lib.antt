@@ -1,0 +1,5 @@
+pub mod Tops
+pub mod Forcing
+pub mod Defining
+pub mod Lines
+pub mod Running
