@@ -480,19 +480,23 @@ fn totals(alloc: Global, words: &[&str], text: &str) -> Result<Option<(u32, u32,
     }
 }
 
+/// A first element, and the ledger of what it took.
+const FIRST: &str = "(def xs (map inc (range 100))) (prn (first xs)) (ledger)";
+
+/// Parts that run ahead, with a ledger after each look.
+const AHEAD: &str =
+    "(def src (map inc (iterate inc 0))) (def p (pmap inc src)) (ledger) (prn (first p)) (ledger) (prn (second p)) (ledger)";
+
 /// The book of a whole run is handed back, and no other.
 #[test]
 fn books(rt: HostRuntime) -> Result<(), Fail> {
-    let first = "(def xs (map inc (range 100))) (prn (first xs)) (ledger)";
-    let ahead =
-        "(def src (map inc (iterate inc 0))) (def p (pmap inc src)) (ledger) (prn (first p)) (ledger) (prn (second p)) (ledger)";
     let rows: [(&[&str], &str, Option<(u32, u32, u128)>); 6] = [
         (&[], "", Some((0, 0, 0))),
-        (&[], first, Some((2, 1, 0))),
-        (&[], ahead, Some((38, 34, 0))),
+        (&[], FIRST, Some((2, 1, 0))),
+        (&[], AHEAD, Some((38, 34, 0))),
         (&[], "(def a (quot 1 0)) (prn 1)", None),
-        (&["--check"], first, None),
-        (&["--generate", "1"], first, None),
+        (&["--check"], FIRST, None),
+        (&["--generate", "1"], FIRST, None),
     ];
     for (words, text, want) in rows {
         assert_eq!(rt; totals(rt.alloc(), words, text)?, want, "{text}");
