@@ -480,26 +480,56 @@ fn totals(alloc: Global, words: &[&str], text: &str) -> Result<Option<(u32, u32,
     }
 }
 
-/// A first element, and the ledger of what it took.
-const FIRST: &str = "(def xs (map inc (range 100))) (prn (first xs)) (ledger)";
-
-/// Parts that run ahead, with a ledger after each look.
-const AHEAD: &str =
-    "(def src (map inc (iterate inc 0))) (def p (pmap inc src)) (ledger) (prn (first p)) (ledger) (prn (second p)) (ledger)";
+/// A script with its words, and what the book that is handed back counts of its parts, if there is one.
+#[derive(Drop)]
+struct Kept {
+    words: &'static [&'static str],
+    text: &'static str,
+    totals: Option<(u32, u32, u128)>,
+}
 
 /// The book of a whole run is handed back, and no other.
 #[test]
 fn books(rt: HostRuntime) -> Result<(), Fail> {
-    let rows: [(&[&str], &str, Option<(u32, u32, u128)>); 6] = [
-        (&[], "", Some((0, 0, 0))),
-        (&[], FIRST, Some((2, 1, 0))),
-        (&[], AHEAD, Some((38, 34, 0))),
-        (&[], "(def a (quot 1 0)) (prn 1)", None),
-        (&["--check"], FIRST, None),
-        (&["--generate", "1"], FIRST, None),
+    let rows: [Kept; 6] = [
+        Kept {
+            words: &[],
+            text: "",
+            totals: Some((0, 0, 0)),
+        },
+        Kept {
+            words: &[],
+            text: "(def xs (map inc (range 100))) (prn (first xs)) (ledger)",
+            totals: Some((2, 1, 0)),
+        },
+        Kept {
+            words: &[],
+            text: "(def src (map inc (iterate inc 0))) (def p (pmap inc src)) (ledger) (prn (first p)) (ledger) (prn (second p)) (ledger)",
+            totals: Some((38, 34, 0)),
+        },
+        Kept {
+            words: &[],
+            text: "(def a (quot 1 0)) (prn 1)",
+            totals: None,
+        },
+        Kept {
+            words: &["--check"],
+            text: "(prn 1)",
+            totals: None,
+        },
+        Kept {
+            words: &["--generate", "1"],
+            text: "(prn 1)",
+            totals: None,
+        },
     ];
-    for (words, text, want) in rows {
-        assert_eq!(rt; totals(rt.alloc(), words, text)?, want, "{text}");
+    for row in &rows {
+        assert_eq!(rt;
+            totals(rt.alloc(), row.words, row.text)?,
+            row.totals,
+            "{}",
+            row.text
+        );
     }
     Ok(())
 }
